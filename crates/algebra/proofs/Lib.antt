@@ -1,0 +1,3 @@
+pub mod Test
+pub mod Compare
+pub mod Order

@@ -1,0 +1,10 @@
+pub mod Limits
+pub mod Pattern
+pub mod Sum
+pub mod Collect
+pub mod Arithmetic
+pub mod Slope
+pub mod Substitute
+pub mod Value
+pub mod Margin
+pub mod Word

@@ -1,0 +1,18 @@
+-- The numbers of document 01. Each is written here and nowhere else.
+use Prim.Native.Nat.{ℕ, _^_}
+
+-- the variables a to h
+abbrev pub variables : ℕ
+variables = 8
+
+abbrev pub largestDegree : ℕ
+largestDegree = 60
+
+abbrev pub mostTerms : ℕ
+mostTerms = 128
+
+abbrev pub largestWeight : ℕ
+largestWeight = 2 ^ 62
+
+abbrev pub mostNodes : ℕ
+mostNodes = 64

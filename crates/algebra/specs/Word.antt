@@ -1,0 +1,45 @@
+-- A pattern held as one word: the positional value of its exponents, the first of them highest.
+use mathlib.Core.Path.{_≡_}
+use mathlib.Core.List.{List, [], _∷_}
+use Prim.Native.Nat.{ℕ, zero, suc, _+_, _*_, _^_, _/_, _%_, _≤_}
+use lib.IntN.{ℤ}
+use lib.ListN.{length}
+use Rattle.algebra.specs.Limits.{variables, largestDegree}
+use Rattle.algebra.specs.Pattern.{Pattern, degree}
+use Rattle.algebra.specs.Sum.{Term, term}
+
+-- ---- Any number of variables, and fields that hold the numbers below B.
+
+unfoldable pub wordOf : ℕ → Pattern → ℕ
+wordOf B [] = 0
+wordOf B (e ∷ p) = e * B ^ length p + wordOf B p
+
+-- the n exponents of a word
+unfoldable pub fieldsOf : ℕ → ℕ → ℕ → Pattern
+fieldsOf B zero w = []
+fieldsOf B (suc n) w = w / B ^ n % B ∷ fieldsOf B n w
+
+-- the terms held in a list of words and a list of coefficients, place by place
+unfoldable pub termsOf : ℕ → ℕ → List ℕ → List ℤ → List Term
+termsOf B n [] cs = []
+termsOf B n (w ∷ ws) [] = []
+termsOf B n (w ∷ ws) (c ∷ cs) = term c (fieldsOf B n w) ∷ termsOf B n ws cs
+
+-- ---- The layout: a byte for each variable, a in the highest and h in the lowest.
+
+abbrev pub fieldSize : ℕ
+fieldSize = 256
+
+unfoldable pub word : Pattern → ℕ
+word p = wordOf fieldSize p
+
+unfoldable pub exponents : ℕ → Pattern
+exponents w = fieldsOf fieldSize variables w
+
+unfoldable pub terms : List ℕ → List ℤ → List Term
+terms ws cs = termsOf fieldSize variables ws cs
+
+-- the word is that of a pattern, and the pattern is within the limits
+pub record Valid (w : ℕ) : Type 0 where
+  pub is : word (exponents w) ≡ w
+  pub low : degree (exponents w) ≤ largestDegree
