@@ -1,3 +1,10 @@
 pub mod Test
 pub mod Compare
 pub mod Order
+pub mod Whole
+pub mod Absolute
+pub mod Total
+pub mod Every
+pub mod Ordered
+pub mod Occurs
+pub mod Equal
