@@ -8,3 +8,5 @@ pub mod Every
 pub mod Ordered
 pub mod Occurs
 pub mod Equal
+pub mod Values
+pub mod Ring

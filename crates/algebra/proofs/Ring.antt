@@ -1,0 +1,129 @@
+-- Sums are a commutative ring: two ways to write the same terms have the same ordered sum.
+use mathlib.Core.Path.{_≡_, refl, sym, _∙_, ap, ap₂}
+use mathlib.Core.List.{List, [], _∷_, _++_}
+use Prim.Native.Nat.{ℕ, zero, suc, _+_}
+use native.Mathlib.Omega.{arith}
+use native.Mathlib.Nat.{add-comm, add-assoc, zero-add}
+use lib.Dec.{T}
+use lib.IntN.{ℤ, pos, _+ℤ_, _*ℤ_, +ℤ-comm, +ℤ-assoc, +ℤ-idr, *ℤ-comm, zero-*ℤ, *ℤ-zero}
+use lib.ListN.{length, replicate}
+use Rattle.algebra.specs.Pattern.{Pattern, emptyPattern, times}
+use Rattle.algebra.specs.Sum.{Term, term, Sum, ordered}
+use Rattle.algebra.specs.Collect.{collect}
+use Rattle.algebra.specs.Arithmetic.{unit, timesTerm, row, pairs, _⊕_, _⊗_, power}
+use Rattle.algebra.specs.Value.{total}
+use Rattle.algebra.proofs.Whole.{*ℤ-assoc, *ℤ-+ℤ, +ℤ-*ℤ, one-*ℤ}
+use Rattle.algebra.proofs.Total.{Additive, total-ext, total-append, total-plus, total-none, total-swap, pairs-total, collect-total}
+use Rattle.algebra.proofs.Every.{Every, Long}
+use Rattle.algebra.proofs.Ordered.{Parts, parts, collect-fixed}
+use Rattle.algebra.proofs.Equal.{collect-equal}
+
+-- ---- Patterns.
+
+pub times-comm : (p q : Pattern) → times p q ≡ times q p
+unfolding times
+times-comm [] [] = refl
+times-comm [] (f ∷ q) = refl
+times-comm (e ∷ p) [] = refl
+times-comm (e ∷ p) (f ∷ q) = ap₂ _∷_ (add-comm e f) (times-comm p q)
+
+pub times-assoc : (p q r : Pattern) → times (times p q) r ≡ times p (times q r)
+unfolding times
+times-assoc [] q r = refl
+times-assoc (e ∷ p) [] r = refl
+times-assoc (e ∷ p) (f ∷ q) [] = refl
+times-assoc (e ∷ p) (f ∷ q) (g ∷ r) = ap₂ _∷_ (add-assoc e f g) (times-assoc p q r)
+
+pub empty-times : (n : ℕ) (q : Pattern) → length q ≡ n → times (emptyPattern n) q ≡ q
+unfolding times
+empty-times zero q h = refl
+empty-times (suc n) [] h = absurd (omega arith)
+empty-times (suc n) (f ∷ q) h = ap₂ _∷_ (zero-add f) (empty-times n q (omega arith))
+
+-- ---- A product's total, over the pairs; it is additive in each operand.
+
+module _ (f : Term → ℤ) (A : Additive f) where
+  pub sum-total : (s t : Sum) → total f (s ⊕ t) ≡ total f s +ℤ total f t
+  unfolding _⊕_
+  sum-total s t = collect-total f A (s ++ t) ∙ total-append f s t
+
+  pub product-total : (s t : Sum) → total f (s ⊗ t) ≡ total (λ u. total (λ v. f (timesTerm u v)) t) s
+  unfolding _⊗_
+  product-total s t = collect-total f A (pairs s t) ∙ pairs-total f s t
+
+module _ (f : Term → ℤ) (A : Additive f) where
+  pub left-additive : (t : Sum) → Additive (λ u. total (λ v. f (timesTerm u v)) t)
+  left-additive t = record {
+    plus = λ c d p. total-ext (λ v. ap (λ z. f (term z (times p (v .pattern)))) (+ℤ-*ℤ c d (v .coefficient)) ∙ A .plus (c *ℤ v .coefficient) (d *ℤ v .coefficient) (times p (v .pattern))) t ∙ total-plus _ _ t;
+    none = λ p. total-ext (λ v. ap (λ z. f (term z (times p (v .pattern)))) (zero-*ℤ (v .coefficient)) ∙ A .none (times p (v .pattern))) t ∙ total-none t;
+  }
+
+  pub right-additive : (u : Term) → Additive (λ v. f (timesTerm u v))
+  right-additive u = record {
+    plus = λ c d q. ap (λ z. f (term z (times (u .pattern) q))) (*ℤ-+ℤ (u .coefficient) c d) ∙ A .plus (u .coefficient *ℤ c) (u .coefficient *ℤ d) (times (u .pattern) q);
+    none = λ q. ap (λ z. f (term z (times (u .pattern) q))) (*ℤ-zero (u .coefficient)) ∙ A .none (times (u .pattern) q);
+  }
+
+  comm-total : (s t : Sum) → total f (pairs s t) ≡ total f (pairs t s)
+  comm-total s t =
+      pairs-total f s t ∙ total-swap (λ u v. f (timesTerm u v)) s t
+      ∙ total-ext (λ v. total-ext (λ u. ap₂ (λ c p. f (term c p)) (*ℤ-comm (u .coefficient) (v .coefficient)) (times-comm (u .pattern) (v .pattern))) s) t ∙ sym (pairs-total f t s)
+
+  assoc-total : (s t u : Sum) → total f (pairs (s ⊗ t) u) ≡ total f (pairs s (t ⊗ u))
+  assoc-total s t u =
+      pairs-total f (s ⊗ t) u ∙ product-total _ (left-additive u) s t
+      ∙ total-ext (λ a. total-ext (λ b. total-ext (regroup a b) u) t ∙ sym (product-total _ (right-additive a) t u)) s ∙ sym (pairs-total f s (t ⊗ u))
+    where
+      regroup : (a b c : Term) → f (timesTerm (timesTerm a b) c) ≡ f (timesTerm a (timesTerm b c))
+      regroup a b c = ap₂ (λ z p. f (term z p)) (*ℤ-assoc (a .coefficient) (b .coefficient) (c .coefficient)) (times-assoc (a .pattern) (b .pattern) (c .pattern))
+
+  over-total : (s t u : Sum) → total f (pairs s (t ⊕ u)) ≡ total f ((s ⊗ t) ++ (s ⊗ u))
+  over-total s t u =
+      pairs-total f s (t ⊕ u) ∙ total-ext (λ a. sum-total _ (right-additive a) t u) s ∙ total-plus _ _ s
+      ∙ sym (total-append f (s ⊗ t) (s ⊗ u) ∙ ap₂ _+ℤ_ (product-total f A s t) (product-total f A s u))
+
+  unit-pairs : (n : ℕ) (s : Sum) → Every (Long n) s → total (λ v. f (timesTerm (term (pos 1) (emptyPattern n)) v)) s ≡ total f s
+  unfolding total
+  unit-pairs n [] h = refl
+  unit-pairs n (t ∷ s) h = ap₂ _+ℤ_ (ap₂ (λ c p. f (term c p)) (one-*ℤ (t .coefficient)) (empty-times n (t .pattern) (h .0))) (unit-pairs n s (h .1))
+
+  unit-total : (n : ℕ) (s : Sum) → Every (Long n) s → total f (pairs (unit n) s) ≡ total f s
+  unit-total n s h = pairs-total f (unit n) s ∙ unfold total in +ℤ-idr (total (λ v. f (timesTerm (term (pos 1) (emptyPattern n)) v)) s) ∙ unit-pairs n s h
+
+-- ---- The laws.
+
+pub sum-comm : (s t : Sum) → s ⊕ t ≡ t ⊕ s
+unfolding _⊕_
+sum-comm s t = collect-equal (s ++ t) (t ++ s) (λ f A. total-append f s t ∙ +ℤ-comm (total f s) (total f t) ∙ sym (total-append f t s))
+
+pub sum-assoc : (s t u : Sum) → (s ⊕ t) ⊕ u ≡ s ⊕ (t ⊕ u)
+sum-assoc s t u = unfold _⊕_ in collect-equal (collect (s ++ t) ++ u) (s ++ collect (t ++ u)) agree
+  where
+    agree : (f : Term → ℤ) → Additive f → total f (collect (s ++ t) ++ u) ≡ total f (s ++ collect (t ++ u))
+    agree f A =
+        total-append f (collect (s ++ t)) u ∙ ap (λ z. z +ℤ total f u) (collect-total f A (s ++ t) ∙ total-append f s t) ∙ +ℤ-assoc (total f s) (total f t) (total f u)
+        ∙ sym (total-append f s (collect (t ++ u)) ∙ ap (λ z. total f s +ℤ z) (collect-total f A (t ++ u) ∙ total-append f t u))
+
+pub sum-zero : (n : ℕ) (s : Sum) → T (ordered n s) → [] ⊕ s ≡ s
+unfolding _⊕_
+sum-zero n s h = collect-fixed n s h
+
+pub product-comm : (s t : Sum) → s ⊗ t ≡ t ⊗ s
+unfolding _⊗_
+product-comm s t = collect-equal (pairs s t) (pairs t s) (λ f A. comm-total f A s t)
+
+pub product-assoc : (s t u : Sum) → (s ⊗ t) ⊗ u ≡ s ⊗ (t ⊗ u)
+product-assoc s t u = unfold _⊗_ in collect-equal (pairs (collect (pairs s t)) u) (pairs s (collect (pairs t u))) (λ f A. unfold _⊗_ in assoc-total f A s t u)
+
+pub product-sum : (s t u : Sum) → s ⊗ (t ⊕ u) ≡ s ⊗ t ⊕ s ⊗ u
+product-sum s t u = unfold _⊗_ _⊕_ in collect-equal (pairs s (collect (t ++ u))) (collect (pairs s t) ++ collect (pairs s u)) (λ f A. unfold _⊗_ _⊕_ in over-total f A s t u)
+
+pub unit-product : (n : ℕ) (s : Sum) → T (ordered n s) → unit n ⊗ s ≡ s
+unfolding _⊗_
+unit-product n s h = collect-equal (pairs (unit n) s) s (λ f A. unit-total f A n s (parts n s h .long)) ∙ collect-fixed n s h
+
+-- a power is repeated multiplication from 1 on
+pub power-suc : (n : ℕ) (s : Sum) (e : ℕ) → T (ordered n s) → power n s (suc e) ≡ power n s e ⊗ s
+unfolding power
+power-suc n s zero h = sym (unit-product n s h)
+power-suc n s (suc e) h = refl
