@@ -10,3 +10,5 @@ pub mod Occurs
 pub mod Equal
 pub mod Values
 pub mod Ring
+pub mod Results
+pub mod Splits

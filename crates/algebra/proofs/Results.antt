@@ -1,0 +1,165 @@
+-- What a sum, a product and a power are like: ordered, with their degree, weight and number of terms bounded as document 01 counts them.
+use mathlib.Core.Path.{_≡_, refl, sym, _∙_, ap}
+use mathlib.Core.Bool.{Bool, true, false}
+use mathlib.Core.List.{List, [], _∷_, _++_}
+use Prim.Native.Nat.{ℕ, zero, suc, _+_, _*_, _^_, max, _≤_, _<_, Ordering, Ordering·lt, Ordering·eq, Ordering·gt}
+use native.Mathlib.Omega.{arith}
+use native.Mathlib.Nat.{le-refl, le-trans, le-max-left, le-max-right, mul-le-mul-right, one-mul, pow-zero, pow-suc}
+use lib.Dec.{T}
+use lib.IntN.{ℤ, pos, negsuc, natAbs, _+ℤ_}
+use lib.ListN.{length, set, replicate, length-set, length-replicate}
+use Rattle.algebra.specs.Pattern.{Pattern, emptyPattern, times, degree, order}
+use Rattle.algebra.specs.Sum.{Term, term, Sum, isZero, ahead, inOrder, noZero, ordered, degreeOf, weight}
+use Rattle.algebra.specs.Collect.{place, insert, gather, keep, dropZeros, collect, spread}
+use Rattle.algebra.specs.Arithmetic.{constant, variable, unit, row, pairs, _⊕_, sumSpread, _⊗_, productSpread, power, powerSpread}
+use Rattle.algebra.proofs.Absolute.{abs-add, abs-mul}
+use Rattle.algebra.proofs.Order.{degree-times}
+use Rattle.algebra.proofs.Total.{zero-is}
+use Rattle.algebra.proofs.Every.{Every, every-map, append-every, collect-every, pairs-every, Long, UpTo, degree-every, every-degree}
+use Rattle.algebra.proofs.Ordered.{Parts, parts, whole, collect-ordered}
+use Rattle.algebra.proofs.Occurs.{collect-length}
+
+-- ---- Ordered.
+
+pub times-length : (n : ℕ) (p q : Pattern) → length p ≡ n → length q ≡ n → length (times p q) ≡ n
+unfolding times
+times-length n [] q h k = k
+times-length n (e ∷ p) [] h k = h
+times-length zero (e ∷ p) (f ∷ q) h k = absurd (omega arith)
+times-length (suc n) (e ∷ p) (f ∷ q) h k = ap suc (times-length n p q (omega arith) (omega arith))
+
+one-term : (n : ℕ) (c : ℤ) (p : Pattern) → T (noZero (term c p ∷ [])) → length p ≡ n → T (ordered n (term c p ∷ []))
+one-term n c p h k = whole n (term c p ∷ []) (record { strict = unfold inOrder ahead in tt; full = h; long = (k, tt) })
+
+pub unit-ordered : (n : ℕ) → T (ordered n (unit n))
+unfolding noZero
+unit-ordered n = one-term n (pos 1) (emptyPattern n) tt (length-replicate n 0)
+
+pub variable-ordered : (n v : ℕ) → T (ordered n (variable n v))
+unfolding variable noZero
+variable-ordered n v = one-term n (pos 1) (set (emptyPattern n) v 1) tt (length-set (emptyPattern n) v 1 ∙ length-replicate n 0)
+
+pub constant-ordered : (n : ℕ) (c : ℤ) → T (ordered n (constant n c))
+unfolding constant
+constant-ordered n c = collect-ordered n (term c (emptyPattern n) ∷ []) (length-replicate n 0, tt)
+
+pub sum-ordered : (n : ℕ) (s t : Sum) → T (ordered n s) → T (ordered n t) → T (ordered n (s ⊕ t))
+unfolding _⊕_
+sum-ordered n s t h k = collect-ordered n (s ++ t) (append-every (Long n) s t (parts n s h .long) (parts n t k .long))
+
+pub product-ordered : (n : ℕ) (s t : Sum) → T (ordered n s) → T (ordered n t) → T (ordered n (s ⊗ t))
+unfolding _⊗_
+product-ordered n s t h k = collect-ordered n (pairs s t) (pairs-every (Long n) (Long n) (Long n) (times-length n) s t (parts n s h .long) (parts n t k .long))
+
+pub power-ordered : (n : ℕ) (s : Sum) (e : ℕ) → T (ordered n s) → T (ordered n (power n s e))
+unfolding power
+power-ordered n s zero h = unit-ordered n
+power-ordered n s (suc zero) h = h
+power-ordered n s (suc (suc e)) h = product-ordered n (power n s (suc e)) s (power-ordered n s (suc e) h) h
+
+-- ---- Degree.
+
+pub sum-degree : (s t : Sum) → degreeOf (s ⊕ t) ≤ max (degreeOf s) (degreeOf t)
+unfolding _⊕_
+sum-degree s t =
+    every-degree _ (collect (s ++ t))
+    (collect-every (UpTo (max (degreeOf s) (degreeOf t))) (s ++ t)
+    (append-every _ s t (degree-every _ s (le-max-left (degreeOf s) (degreeOf t))) (degree-every _ t (le-max-right (degreeOf s) (degreeOf t)))))
+
+pub times-degree : (a b : ℕ) (p q : Pattern) → degree p ≤ a → degree q ≤ b → degree (times p q) ≤ a + b
+times-degree a b p q h k = omega (arith, degree-times p q)
+
+pub product-degree : (s t : Sum) → degreeOf (s ⊗ t) ≤ degreeOf s + degreeOf t
+unfolding _⊗_
+product-degree s t =
+    every-degree _ (collect (pairs s t))
+    (collect-every (UpTo (degreeOf s + degreeOf t)) (pairs s t)
+    (pairs-every (UpTo (degreeOf s)) (UpTo (degreeOf t)) _ (times-degree (degreeOf s) (degreeOf t)) s t (degree-every _ s (le-refl _)) (degree-every _ t (le-refl _))))
+
+pub empty-degree : (n : ℕ) → degree (emptyPattern n) ≡ 0
+unfolding degree
+empty-degree zero = refl
+empty-degree (suc n) = omega (arith, empty-degree n)
+
+pub power-degree : (n : ℕ) (s : Sum) (e : ℕ) → degreeOf (power n s e) ≤ e * degreeOf s
+unfolding power
+power-degree n s zero = unfold degreeOf in omega (arith, empty-degree n)
+power-degree n s (suc zero) = omega arith
+power-degree n s (suc (suc e)) = omega (arith, product-degree (power n s (suc e)) s, power-degree n s (suc e))
+
+-- ---- Weight.
+
+place-weight : (o : Ordering) (t u : Term) (s after : Sum) → weight after ≤ natAbs (t .coefficient) + weight s
+    → weight (place o t u s after) ≤ natAbs (t .coefficient) + (natAbs (u .coefficient) + weight s)
+unfolding place weight
+place-weight Ordering·lt t u s after h = omega arith
+place-weight Ordering·eq t u s after h = omega (arith, abs-add (t .coefficient) (u .coefficient))
+place-weight Ordering·gt t u s after h = omega arith
+
+insert-weight : (t : Term) (s : Sum) → weight (insert t s) ≤ natAbs (t .coefficient) + weight s
+unfolding insert weight
+insert-weight t [] = omega arith
+insert-weight t (u ∷ s) = place-weight (order (t .pattern) (u .pattern)) t u s (insert t s) (insert-weight t s)
+
+pub gather-weight : (l : List Term) → weight (gather l) ≤ weight l
+unfolding gather weight
+gather-weight [] = omega arith
+gather-weight (t ∷ l) = omega (arith, insert-weight t (gather l), gather-weight l)
+
+keep-weight : (b : Bool) (t : Term) (s : Sum) → weight (keep b t s) ≤ natAbs (t .coefficient) + weight s
+unfolding keep weight
+keep-weight true t s = omega arith
+keep-weight false t s = omega arith
+
+drop-weight : (s : Sum) → weight (dropZeros s) ≤ weight s
+unfolding dropZeros weight
+drop-weight [] = omega arith
+drop-weight (t ∷ s) = omega (arith, keep-weight (isZero (t .coefficient)) t (dropZeros s), drop-weight s)
+
+pub collect-weight : (l : List Term) → weight (collect l) ≤ weight l
+unfolding collect
+collect-weight l = le-trans (drop-weight (gather l)) (gather-weight l)
+
+pub append-weight : (l m : List Term) → weight (l ++ m) ≡ weight l + weight m
+unfolding weight
+append-weight [] m = omega arith
+append-weight (t ∷ l) m = omega (arith, append-weight l m)
+
+pub row-weight : (u : Term) (s : Sum) → weight (row u s) ≡ natAbs (u .coefficient) * weight s
+unfolding row weight
+row-weight u [] = omega arith
+row-weight u (t ∷ s) = omega (arith, abs-mul (u .coefficient) (t .coefficient), row-weight u s)
+
+pub pairs-weight : (s t : Sum) → weight (pairs s t) ≡ weight s * weight t
+unfolding pairs weight
+pairs-weight [] t = omega arith
+pairs-weight (u ∷ s) t = omega (arith, append-weight (row u t) (pairs s t), row-weight u t, pairs-weight s t)
+
+pub sum-weight : (s t : Sum) → weight (s ⊕ t) ≤ weight s + weight t
+unfolding _⊕_
+sum-weight s t = omega (arith, collect-weight (s ++ t), append-weight s t)
+
+pub product-weight : (s t : Sum) → weight (s ⊗ t) ≤ weight s * weight t
+unfolding _⊗_
+product-weight s t = omega (arith, collect-weight (pairs s t), pairs-weight s t)
+
+pub power-weight : (n : ℕ) (s : Sum) (e : ℕ) → weight (power n s e) ≤ weight s ^ e
+unfolding power
+power-weight n s zero = rw pow-zero (unfold weight in le-refl 1)
+power-weight n s (suc zero) = rw (pow-suc, pow-zero, one-mul) (le-refl (weight s))
+power-weight n s (suc (suc e)) = rw pow-suc (le-trans (product-weight (power n s (suc e)) s) (mul-le-mul-right (weight s) (power-weight n s (suc e))))
+
+-- ---- Number of terms.
+
+pub sum-length : (s t : Sum) → length (s ⊕ t) ≤ sumSpread s t
+unfolding _⊕_ sumSpread
+sum-length s t = collect-length (s ++ t)
+
+pub product-length : (s t : Sum) → length (s ⊗ t) ≤ productSpread s t
+unfolding _⊗_ productSpread
+product-length s t = collect-length (pairs s t)
+
+-- exponents 0 and 1 form no product: 1 has one term, and the base its own
+pub power-length : (n : ℕ) (s : Sum) (e : ℕ) → length (power n s (suc (suc e))) ≤ powerSpread n s (suc (suc e))
+unfolding power powerSpread
+power-length n s e = le-trans (product-length (power n s (suc e)) s) (le-max-right (powerSpread n s (suc e)) (productSpread (power n s (suc e)) s))
