@@ -12,3 +12,5 @@ pub mod Values
 pub mod Ring
 pub mod Results
 pub mod Splits
+pub mod Coefficients
+pub mod Slopes

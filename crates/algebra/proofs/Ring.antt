@@ -9,7 +9,7 @@ use lib.IntN.{ℤ, pos, _+ℤ_, _*ℤ_, +ℤ-comm, +ℤ-assoc, +ℤ-idr, *ℤ-co
 use lib.ListN.{length, replicate}
 use Rattle.algebra.specs.Pattern.{Pattern, emptyPattern, times}
 use Rattle.algebra.specs.Sum.{Term, term, Sum, ordered}
-use Rattle.algebra.specs.Collect.{collect}
+use Rattle.algebra.specs.Collect.{gather, dropZeros, collect}
 use Rattle.algebra.specs.Arithmetic.{unit, timesTerm, row, pairs, _⊕_, _⊗_, power}
 use Rattle.algebra.specs.Value.{total}
 use Rattle.algebra.proofs.Whole.{*ℤ-assoc, *ℤ-+ℤ, +ℤ-*ℤ, one-*ℤ}
@@ -107,6 +107,10 @@ sum-assoc s t u = unfold _⊕_ in collect-equal (collect (s ++ t) ++ u) (s ++ co
 pub sum-zero : (n : ℕ) (s : Sum) → T (ordered n s) → [] ⊕ s ≡ s
 unfolding _⊕_
 sum-zero n s h = collect-fixed n s h
+
+pub zero-product : (s : Sum) → [] ⊗ s ≡ []
+unfolding _⊗_ pairs collect gather dropZeros
+zero-product s = refl
 
 pub product-comm : (s t : Sum) → s ⊗ t ≡ t ⊗ s
 unfolding _⊗_

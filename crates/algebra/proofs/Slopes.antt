@@ -1,0 +1,228 @@
+-- The slope is that of algebra: its coefficients are those one power up, it is linear, and it has the product rule.
+use mathlib.Core.Path.{_≡_, refl, sym, _∙_, ap, ap₂}
+use mathlib.Core.Bool.{Bool, true, false}
+use mathlib.Core.List.{List, [], _∷_, _++_, map}
+use Prim.Native.Nat.{ℕ, zero, suc, _+_, _*_, _-_, _≤_, _<_}
+use native.Mathlib.Omega.{arith}
+use native.Mathlib.Nat.{le-refl, le-trans, mul-le-mul-left, add-zero}
+use lib.Dec.{T}
+use lib.IntN.{ℤ, pos, natAbs, _+ℤ_, _*ℤ_, +ℤ-idl, *ℤ-comm, *ℤ-zero, zero-*ℤ}
+use lib.ListN.{length, getD, set, replicate, length-set, length-map}
+use lib.Seq.{getD-set-same, set-set, set-getD}
+use Rattle.algebra.specs.Pattern.{Pattern, emptyPattern, times, degree, exponent, raised, lowered, same}
+use Rattle.algebra.specs.Sum.{Term, term, Sum, ordered, degreeOf, weight}
+use Rattle.algebra.specs.Collect.{gather, dropZeros, collect}
+use Rattle.algebra.specs.Arithmetic.{constant, timesTerm, pairs, _⊕_, _⊗_}
+use Rattle.algebra.specs.Slope.{slopeTerm, slope}
+use Rattle.algebra.specs.Value.{total, onlyIf, coefficientIn, coefficient}
+use Rattle.algebra.proofs.Whole.{*ℤ-assoc, *ℤ-+ℤ, +ℤ-*ℤ, *ℤ-left-comm}
+use Rattle.algebra.proofs.Absolute.{abs-mul}
+use Rattle.algebra.proofs.Order.{same-self, same-eq}
+use Rattle.algebra.proofs.Total.{Additive, total-ext, total-map, total-append, total-plus, total-times, total-none, pairs-total, collect-total}
+use Rattle.algebra.proofs.Every.{Every, Long, UpTo, degree-every, every-degree, collect-every}
+use Rattle.algebra.proofs.Ordered.{Parts, parts, collect-ordered}
+use Rattle.algebra.proofs.Occurs.{true-is, false-is, collect-length, spread-length}
+use Rattle.algebra.proofs.Equal.{coefficient-additive, collect-equal}
+use Rattle.algebra.proofs.Ring.{times-comm, sum-total, product-total, left-additive, right-additive, sum-zero, zero-product}
+use Rattle.algebra.proofs.Results.{product-ordered, constant-ordered, collect-weight}
+
+-- ---- One power more and one power less.
+
+module _ (v : ℕ) (p : Pattern) where
+  pub raised-exponent : v < length p → exponent v (raised v p) ≡ suc (exponent v p)
+  raised-exponent h = getD-set-same p v (suc (exponent v p)) 0 h
+
+  pub lowered-raised : v < length p → lowered v (raised v p) ≡ p
+  lowered-raised h =
+      set-set p v (suc (exponent v p)) (exponent v (raised v p) - 1)
+      ∙ ap (set p v) (ap (λ n. n - 1) (raised-exponent h) ∙ omega arith) ∙ set-getD p v 0
+
+present : (v : ℕ) (p : Pattern) → 0 < exponent v p → v < length p
+present v [] h = absurd (omega arith)
+present zero (e ∷ p) h = omega arith
+present (suc v) (e ∷ p) h = omega (arith, present v p h)
+
+pub raised-lowered : (v : ℕ) (p : Pattern) → 0 < exponent v p → raised v (lowered v p) ≡ p
+raised-lowered v p h =
+    set-set p v (exponent v p - 1) (suc (exponent v (lowered v p)))
+    ∙ ap (set p v) (ap suc (getD-set-same p v (exponent v p - 1) 0 (present v p h)) ∙ omega arith) ∙ set-getD p v 0
+
+pub exponent-times : (v : ℕ) (p q : Pattern) → exponent v (times p q) ≡ exponent v p + exponent v q
+unfolding times
+exponent-times v [] q = omega arith
+exponent-times v (e ∷ p) [] = omega arith
+exponent-times zero (e ∷ p) (f ∷ q) = refl
+exponent-times (suc v) (e ∷ p) (f ∷ q) = exponent-times v p q
+
+lowered-times : (v : ℕ) (p q : Pattern) → 0 < exponent v p → lowered v (times p q) ≡ times (lowered v p) q
+unfolding times
+lowered-times v [] q h = absurd (omega arith)
+lowered-times zero (e ∷ p) [] h = refl
+lowered-times (suc v) (e ∷ p) [] h = refl
+lowered-times zero (e ∷ p) (f ∷ q) h = ap (λ n. n ∷ times p q) (omega arith)
+lowered-times (suc v) (e ∷ p) (f ∷ q) h = ap (λ r. (e + f) ∷ r) (lowered-times v p q h)
+
+-- ---- Totals.
+
+module _ (v : ℕ) (f : Term → ℤ) (A : Additive f) where
+  pub slope-additive : Additive (λ t. f (slopeTerm v t))
+  slope-additive = record {
+    plus = λ c d p. ap (λ z. f (term z (lowered v p))) (+ℤ-*ℤ c d (pos (exponent v p))) ∙ A .plus (c *ℤ pos (exponent v p)) (d *ℤ pos (exponent v p)) (lowered v p);
+    none = λ p. ap (λ z. f (term z (lowered v p))) (zero-*ℤ (pos (exponent v p))) ∙ A .none (lowered v p);
+  }
+
+  pub slope-total : (s : Sum) → total f (slope v s) ≡ total (λ t. f (slopeTerm v t)) s
+  unfolding slope
+  slope-total s = collect-total f A (map (slopeTerm v) s) ∙ total-map f (slopeTerm v) s
+
+-- ---- Coefficients.
+
+slope-here : (v : ℕ) (t : Term) (r : Pattern) → v < length r → coefficientIn r (slopeTerm v t) ≡ pos (suc (exponent v r)) *ℤ coefficientIn (raised v r) t
+unfolding onlyIf
+slope-here v t r h = go (same (raised v r) (t .pattern)) refl
+  where
+    -- where the pattern is not r with one power more, its slope has not the pattern r, or it has no power to take
+    other : (n : ℕ) → exponent v (t .pattern) ≡ n → same (raised v r) (t .pattern) ≡ false → onlyIf (same r (lowered v (t .pattern))) (t .coefficient *ℤ pos (exponent v (t .pattern))) ≡ pos 0
+    other zero z k = ap (λ m. onlyIf (same r (lowered v (t .pattern))) (t .coefficient *ℤ pos m)) z ∙ ap (onlyIf (same r (lowered v (t .pattern)))) (*ℤ-zero (t .coefficient)) ∙ nothing (same r (lowered v (t .pattern)))
+      where
+        nothing : (b : Bool) → onlyIf b (pos 0) ≡ pos 0
+        nothing true = refl
+        nothing false = refl
+    other (suc n) z k = ap (λ b. onlyIf b (t .coefficient *ℤ pos (exponent v (t .pattern)))) (false-is (same r (lowered v (t .pattern))) never)
+      where
+        never : T (same r (lowered v (t .pattern))) → ⊥
+        never m =
+            let w : raised v r ≡ t .pattern = ap (raised v) (same-eq r (lowered v (t .pattern)) m) ∙ raised-lowered v (t .pattern) (omega arith) in
+            let y : T (same (raised v r) (t .pattern)) = rw w (same-self (t .pattern)) in
+            rw k at y
+
+    go : (b : Bool) → same (raised v r) (t .pattern) ≡ b → coefficientIn r (slopeTerm v t) ≡ pos (suc (exponent v r)) *ℤ onlyIf b (t .coefficient)
+    go false k = other (exponent v (t .pattern)) refl k ∙ sym (*ℤ-zero (pos (suc (exponent v r))))
+    go true k =
+        let w : raised v r ≡ t .pattern = same-eq (raised v r) (t .pattern) (rw k tt) in
+        ap (λ p. onlyIf (same r (lowered v p)) (t .coefficient *ℤ pos (exponent v p))) (sym w)
+        ∙ ap₂ (λ p n. onlyIf (same r p) (t .coefficient *ℤ pos n)) (lowered-raised v r h) (raised-exponent v r h)
+        ∙ ap (λ b. onlyIf b (t .coefficient *ℤ pos (suc (exponent v r)))) (true-is (same r r) (same-self r))
+        ∙ *ℤ-comm (t .coefficient) (pos (suc (exponent v r)))
+
+pub slope-coefficient : (v : ℕ) (s : Sum) (r : Pattern) → v < length r → coefficient (slope v s) r ≡ pos (suc (exponent v r)) *ℤ coefficient s (raised v r)
+unfolding coefficient
+slope-coefficient v s r h =
+    slope-total v (coefficientIn r) (coefficient-additive r) s ∙ total-ext (λ t. slope-here v t r h) s ∙ total-times (pos (suc (exponent v r))) (coefficientIn (raised v r)) s
+
+-- ---- Linear, and the product rule.
+
+pub slope-sum : (v : ℕ) (s t : Sum) → slope v (s ⊕ t) ≡ slope v s ⊕ slope v t
+slope-sum v s t = unfold slope _⊕_ in collect-equal (map (slopeTerm v) (collect (s ++ t))) (collect (map (slopeTerm v) s) ++ collect (map (slopeTerm v) t)) (λ f A. unfold slope _⊕_ in agree f A)
+  where
+    agree : (f : Term → ℤ) → Additive f → total f (map (slopeTerm v) (s ⊕ t)) ≡ total f (slope v s ++ slope v t)
+    agree f A =
+        total-map f (slopeTerm v) (s ⊕ t) ∙ sum-total _ (slope-additive v f A) s t
+        ∙ sym (total-append f (slope v s) (slope v t) ∙ ap₂ _+ℤ_ (slope-total v f A s) (slope-total v f A t))
+
+module _ (v : ℕ) (f : Term → ℤ) (A : Additive f) where
+  -- the slope of a product of two terms, as far as f sees it
+  first : (u t : Term) (n : ℕ) → exponent v (u .pattern) ≡ n
+      → f (term ((u .coefficient *ℤ t .coefficient) *ℤ pos n) (lowered v (times (u .pattern) (t .pattern)))) ≡ f (timesTerm (slopeTerm v u) t)
+  first u t zero e =
+      ap (λ z. f (term z (lowered v (times (u .pattern) (t .pattern))))) (*ℤ-zero (u .coefficient *ℤ t .coefficient)) ∙ A .none _
+      ∙ sym (ap (λ z. f (term z (times (lowered v (u .pattern)) (t .pattern)))) (ap (λ m. (u .coefficient *ℤ pos m) *ℤ t .coefficient) e ∙ ap (λ z. z *ℤ t .coefficient) (*ℤ-zero (u .coefficient)) ∙ zero-*ℤ (t .coefficient)) ∙ A .none _)
+  first u t (suc n) e =
+      ap₂ (λ z p. f (term z p)) (move (u .coefficient) (t .coefficient) (pos (suc n)) ∙ ap (λ m. (u .coefficient *ℤ pos m) *ℤ t .coefficient) (sym e))
+      (lowered-times v (u .pattern) (t .pattern) (omega arith))
+    where
+      move : (a b c : ℤ) → (a *ℤ b) *ℤ c ≡ (a *ℤ c) *ℤ b
+      move a b c = *ℤ-assoc a b c ∙ ap (λ z. a *ℤ z) (*ℤ-comm b c) ∙ sym (*ℤ-assoc a c b)
+
+  turned : (u t : Term) → timesTerm u t ≡ timesTerm t u
+  turned u t = ap₂ term (*ℤ-comm (u .coefficient) (t .coefficient)) (times-comm (u .pattern) (t .pattern))
+
+  pair-rule : (u t : Term) → f (slopeTerm v (timesTerm u t)) ≡ f (timesTerm (slopeTerm v u) t) +ℤ f (timesTerm u (slopeTerm v t))
+  pair-rule u t =
+      ap (λ z. f (term z (lowered v (times (u .pattern) (t .pattern)))))
+      (ap (λ m. (u .coefficient *ℤ t .coefficient) *ℤ pos m) (exponent-times v (u .pattern) (t .pattern)) ∙ *ℤ-+ℤ (u .coefficient *ℤ t .coefficient) (pos (exponent v (u .pattern))) (pos (exponent v (t .pattern))))
+      ∙ A .plus ((u .coefficient *ℤ t .coefficient) *ℤ pos (exponent v (u .pattern))) ((u .coefficient *ℤ t .coefficient) *ℤ pos (exponent v (t .pattern))) _
+      ∙ ap₂ _+ℤ_ (first u t (exponent v (u .pattern)) refl)
+      (ap₂ (λ c p. f (term (c *ℤ pos (exponent v (t .pattern))) (lowered v p))) (*ℤ-comm (u .coefficient) (t .coefficient)) (times-comm (u .pattern) (t .pattern))
+      ∙ first t u (exponent v (t .pattern)) refl ∙ ap f (turned (slopeTerm v t) u))
+
+  rule-total : (s t : Sum) → total f (slope v (s ⊗ t)) ≡ total f (slope v s ⊗ t) +ℤ total f (s ⊗ slope v t)
+  rule-total s t =
+      slope-total v f A (s ⊗ t) ∙ product-total _ (slope-additive v f A) s t
+      ∙ total-ext (λ u. total-ext (pair-rule u) t ∙ total-plus _ _ t) s ∙ total-plus _ _ s
+      ∙ ap₂ _+ℤ_ (sym (product-total f A (slope v s) t ∙ slope-total v _ (left-additive f A t) s))
+      (sym (product-total f A s (slope v t) ∙ total-ext (λ u. slope-total v _ (right-additive f A u) t) s))
+
+pub slope-product : (v : ℕ) (s t : Sum) → slope v (s ⊗ t) ≡ slope v s ⊗ t ⊕ s ⊗ slope v t
+slope-product v s t = unfold slope _⊕_ in collect-equal (map (slopeTerm v) (s ⊗ t)) ((collect (map (slopeTerm v) s) ⊗ t) ++ (s ⊗ collect (map (slopeTerm v) t))) (λ f A. unfold slope in agree f A)
+  where
+    agree : (f : Term → ℤ) → Additive f → total f (map (slopeTerm v) (s ⊗ t)) ≡ total f ((slope v s ⊗ t) ++ (s ⊗ slope v t))
+    agree f A =
+        total-map f (slopeTerm v) (s ⊗ t) ∙ sym (slope-total v f A (s ⊗ t)) ∙ rule-total v f A s t ∙ sym (total-append f (slope v s ⊗ t) (s ⊗ slope v t))
+
+-- ---- Ordered.
+
+lowered-length : (n v : ℕ) (s : Sum) → Every (Long n) s → Every (Long n) (map (slopeTerm v) s)
+lowered-length n v [] h = tt
+lowered-length n v (t ∷ s) h = (length-set (t .pattern) v _ ∙ h .0, lowered-length n v s (h .1))
+
+pub slope-ordered : (n v : ℕ) (s : Sum) → T (ordered n s) → T (ordered n (slope v s))
+unfolding slope
+slope-ordered n v s h = collect-ordered n (map (slopeTerm v) s) (lowered-length n v s (parts n s h .long))
+
+-- a number has no slope, so it can be put in front of one
+pub slope-constant : (n v : ℕ) (c : ℤ) → slope v (constant n c) ≡ []
+unfolding collect gather dropZeros
+slope-constant n v c = unfold slope in collect-equal (map (slopeTerm v) (constant n c)) [] agree
+  where
+    empty-exponent : (n v : ℕ) → exponent v (emptyPattern n) ≡ 0
+    empty-exponent zero v = refl
+    empty-exponent (suc n) zero = refl
+    empty-exponent (suc n) (suc v) = empty-exponent n v
+
+    agree : (f : Term → ℤ) → Additive f → total f (map (slopeTerm v) (constant n c)) ≡ total f []
+    agree f A =
+        total-map f (slopeTerm v) (constant n c) ∙ unfold constant in collect-total _ (slope-additive v f A) (term c (emptyPattern n) ∷ [])
+        ∙ unfold total in (ap (λ z. f (term z (lowered v (emptyPattern n))) +ℤ pos 0) (ap (λ m. c *ℤ pos m) (empty-exponent n v) ∙ *ℤ-zero c) ∙ ap (λ z. z +ℤ pos 0) (A .none _))
+
+pub slope-multiple : (n v : ℕ) (c : ℤ) (s : Sum) → T (ordered n s) → slope v (constant n c ⊗ s) ≡ constant n c ⊗ slope v s
+slope-multiple n v c s h =
+    slope-product v (constant n c) s ∙ ap (λ z. z ⊗ s ⊕ constant n c ⊗ slope v s) (slope-constant n v c)
+    ∙ ap (λ z. z ⊕ constant n c ⊗ slope v s) (zero-product s)
+    ∙ sum-zero n (constant n c ⊗ slope v s) (product-ordered n (constant n c) (slope v s) (constant-ordered n c) (slope-ordered n v s h))
+
+-- ---- Degree, weight and number of terms.
+
+set-degree : (v e : ℕ) (p : Pattern) → e ≤ exponent v p → degree (set p v e) ≤ degree p
+unfolding degree
+set-degree v e [] h = omega arith
+set-degree zero e (f ∷ p) h = omega arith
+set-degree (suc v) e (f ∷ p) h = omega (arith, set-degree v e p h)
+
+pub slope-degree : (v : ℕ) (s : Sum) → degreeOf (slope v s) ≤ degreeOf s
+unfolding slope
+slope-degree v s = every-degree _ (collect (map (slopeTerm v) s)) (collect-every (UpTo (degreeOf s)) (map (slopeTerm v) s) (each s (degree-every _ s (le-refl _))))
+  where
+    each : (l : Sum) → Every (UpTo (degreeOf s)) l → Every (UpTo (degreeOf s)) (map (slopeTerm v) l)
+    each [] h = tt
+    each (t ∷ l) h = (le-trans (set-degree v (exponent v (t .pattern) - 1) (t .pattern) (omega arith)) (h .0), each l (h .1))
+
+pub slope-length : (v : ℕ) (s : Sum) → length (slope v s) ≤ length s
+unfolding slope
+slope-length v s = omega (arith, collect-length (map (slopeTerm v) s), spread-length (map (slopeTerm v) s), length-map s (slopeTerm v))
+
+exponent-degree : (v : ℕ) (p : Pattern) → exponent v p ≤ degree p
+unfolding degree
+exponent-degree v [] = omega arith
+exponent-degree zero (e ∷ p) = omega arith
+exponent-degree (suc v) (e ∷ p) = omega (arith, exponent-degree v p)
+
+terms-weight : (m v : ℕ) (s : Sum) → Every (UpTo m) s → weight (map (slopeTerm v) s) ≤ m * weight s
+unfolding weight
+terms-weight m v [] h = omega arith
+terms-weight m v (t ∷ s) h = omega
+    (arith, abs-mul (t .coefficient) (pos (exponent v (t .pattern))), mul-le-mul-left (natAbs (t .coefficient)) (le-trans (exponent-degree v (t .pattern)) (h .0)), terms-weight m v s (h .1))
+
+pub slope-weight : (v : ℕ) (s : Sum) → weight (slope v s) ≤ degreeOf s * weight s
+unfolding slope
+slope-weight v s = le-trans (collect-weight (map (slopeTerm v) s)) (terms-weight (degreeOf s) v s (degree-every _ s (le-refl _)))
