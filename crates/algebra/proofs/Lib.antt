@@ -1,3 +1,4 @@
 pub mod Test
 pub mod Compare
 pub mod Order
+pub mod Fields
