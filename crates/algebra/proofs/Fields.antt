@@ -3,8 +3,9 @@ use mathlib.Core.Path.{_≡_, refl, sym, _∙_, ap, ap₂, subst}
 use mathlib.Core.List.{List, [], _∷_}
 use Prim.Native.Nat.{ℕ, zero, suc, _+_, _*_, _^_, _/_, _%_, _-_, _≤_, _<_, compare, Ordering, Ordering·lt, Ordering·eq, Ordering·gt}
 use native.Mathlib.Omega.{arith}
-use native.Mathlib.Nat.{pow-zero, pow-succ', mod-eq-of-lt, mod-lt, mod-one, add-mul, mul-assoc, mul-add-div-right, mul-add-mod-self-right, one-le-pow}
+use native.Mathlib.Nat.{pow-zero, pow-suc, pow-succ', mul-zero, mul-suc, mod-eq-of-lt, mod-lt, mod-one, add-mul, mul-assoc, mul-add-div-right, mul-add-mod-self-right, one-le-pow}
 use lib.Arith.{digits-lt, digits-div, digits-mod, mod-mul}
+use lib.Pow.{pow-add}
 use lib.ListN.{length, getD, set, length-set, replicate}
 use Rattle.algebra.specs.Pattern.{Pattern, emptyPattern, times, degree, exponent, lowered, thenBy, byPowers, order}
 use Rattle.algebra.specs.Word.{wordOf, fieldsOf}
@@ -75,6 +76,11 @@ field-at B zero w v h = absurd (omega arith)
 field-at B (suc n) w zero h = ap (λ (k : ℕ). w / B ^ k % B) (omega arith)
 field-at B (suc n) w (suc v) h = field-at B n w v (omega arith) ∙ ap (λ (k : ℕ). w / B ^ k % B) (omega arith)
 
+-- where fields are of b bits, the value of a place is reached by a shift
+pub place-bits : (b k : ℕ) → (2 ^ b) ^ k ≡ 2 ^ (b * k)
+place-bits b zero = rw (pow-zero (2 ^ b), mul-zero b) (sym (pow-zero 2))
+place-bits b (suc k) = rw (pow-suc (2 ^ b) k, place-bits b k, mul-suc b k, pow-add 2 (b * k) b)
+
 pub word-zero : (B n : ℕ) → wordOf B (emptyPattern n) ≡ 0
 unfolding wordOf
 word-zero B zero = refl
@@ -106,26 +112,30 @@ fields-times B p q h k =
 
 -- ---- The degree. B leaves 1 when divided by B - 1, and so does each of its powers: the remainder adds the exponents up.
 
-power-rest : (m k : ℕ) → (t : ℕ) × (suc m ^ k ≡ t * m + 1)
-power-rest m zero = (0, omega (arith, pow-zero (suc m)))
-power-rest m (suc k) = next (power-rest m k)
+-- w is d and a multiple of m
+abbrev Leaves : ℕ → ℕ → ℕ → Type 0
+Leaves m w d = (t : ℕ) × (w ≡ t * m + d)
+
+power-leaves : (m k : ℕ) → Leaves m (suc m ^ k) 1
+power-leaves m zero = (0, omega (arith, pow-zero (suc m)))
+power-leaves m (suc k) = next (power-leaves m k)
   where
-    next : (t : ℕ) × (suc m ^ k ≡ t * m + 1) → (t : ℕ) × (suc m ^ suc k ≡ t * m + 1)
+    next : Leaves m (suc m ^ k) 1 → Leaves m (suc m ^ suc k) 1
     next (t, h) = (t + t * m + 1, rw (pow-succ', h) (omega arith))
 
-word-rest : (m : ℕ) (p : Pattern) → (t : ℕ) × (wordOf (suc m) p ≡ t * m + degree p)
+word-leaves : (m : ℕ) (p : Pattern) → Leaves m (wordOf (suc m) p) (degree p)
 unfolding wordOf degree
-word-rest m [] = (0, omega arith)
-word-rest m (e ∷ p) = next (power-rest m (length p)) (word-rest m p)
+word-leaves m [] = (0, omega arith)
+word-leaves m (e ∷ p) = next (power-leaves m (length p)) (word-leaves m p)
   where
-    next : (t : ℕ) × (suc m ^ length p ≡ t * m + 1) → (t : ℕ) × (wordOf (suc m) p ≡ t * m + degree p)
-        → (t : ℕ) × (e * suc m ^ length p + wordOf (suc m) p ≡ t * m + (e + degree p))
+    next : Leaves m (suc m ^ length p) 1 → Leaves m (wordOf (suc m) p) (degree p)
+        → Leaves m (e * suc m ^ length p + wordOf (suc m) p) (e + degree p)
     next (t, h) (s, k) = (e * t + s, rw (h, k) (omega arith))
 
 pub word-degree : (m : ℕ) (p : Pattern) → degree p < m → wordOf (suc m) p % m ≡ degree p
-word-degree m p h = from (word-rest m p)
+word-degree m p h = from (word-leaves m p)
   where
-    from : (t : ℕ) × (wordOf (suc m) p ≡ t * m + degree p) → wordOf (suc m) p % m ≡ degree p
+    from : Leaves m (wordOf (suc m) p) (degree p) → wordOf (suc m) p % m ≡ degree p
     from (t, k) = ap (λ (w : ℕ). w % m) k ∙ digits-mod t h
 
 -- ---- The term order: the larger degree first, then the larger word.

@@ -2,3 +2,4 @@ pub mod Test
 pub mod Compare
 pub mod Order
 pub mod Fields
+pub mod Word
