@@ -1,12 +1,12 @@
 -- The laws of words, each once for every field base B and every number of variables.
 use mathlib.Core.Path.{_≡_, refl, sym, _∙_, ap, ap₂, subst}
-use mathlib.Core.List.{List, [], _∷_}
+use mathlib.Core.List.{[], _∷_}
 use Prim.Native.Nat.{ℕ, zero, suc, _+_, _*_, _^_, _/_, _%_, _-_, _≤_, _<_, compare, Ordering, Ordering·lt, Ordering·eq, Ordering·gt}
 use native.Mathlib.Omega.{arith}
 use native.Mathlib.Nat.{pow-zero, pow-suc, pow-succ', mul-zero, mul-suc, mod-eq-of-lt, mod-lt, mod-one, add-mul, mul-assoc, mul-add-div-right, mul-add-mod-self-right, one-le-pow}
 use lib.Arith.{digits-lt, digits-div, digits-mod, mod-mul}
 use lib.Pow.{pow-add}
-use lib.ListN.{length, getD, set, length-set, replicate}
+use lib.ListN.{length, length-set}
 use Rattle.algebra.specs.Pattern.{Pattern, emptyPattern, times, degree, exponent, lowered, thenBy, byPowers, order}
 use Rattle.algebra.specs.Word.{wordOf, fieldsOf}
 use Rattle.algebra.proofs.Compare.{Says, compare-says, compare-is, compare-add}
@@ -85,6 +85,11 @@ pub word-zero : (B n : ℕ) → wordOf B (emptyPattern n) ≡ 0
 unfolding wordOf
 word-zero B zero = refl
 word-zero B (suc n) = omega (arith, word-zero B n)
+
+pub degree-zero : (n : ℕ) → degree (emptyPattern n) ≡ 0
+unfolding degree
+degree-zero zero = refl
+degree-zero (suc n) = omega (arith, degree-zero n)
 
 -- ---- The product of two patterns: the words add up.
 

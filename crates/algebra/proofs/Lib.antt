@@ -3,3 +3,4 @@ pub mod Compare
 pub mod Order
 pub mod Fields
 pub mod Word
+pub mod Unique

@@ -116,10 +116,13 @@ impl Pattern {
     {
         let power = self.exponent(v);
         if power == 0 {
-            return Step { power: power, pattern: self };
+            return Step {
+                power,
+                pattern: self,
+            };
         }
         let one = 1 << Pattern::bits_below(v);
         let pattern = Pattern(self.0 - one);
-        Step { power: power, pattern: pattern }
+        Step { power, pattern }
     }
 }

@@ -9,9 +9,6 @@ use Rattle.algebra.proofs.Compare.{Says, compare-says, compare-is}
 use Rattle.algebra.proofs.Word.{word-order}
 use Rattle.algebra.proofs.Pattern.compare.Statement.{statement}
 use Rattle.algebra.proofs.Pattern.compare.Tie as tie
-use Rattle.algebra.proofs.Pattern.compare.Reads as reads
-use Rattle.algebra.proofs.Pattern.compare.Lts as lts
-use Rattle.algebra.proofs.Pattern.degree.Reads as degree-reads
 
 -- the answers by the degrees m and n, and at a tie by the words
 module _ {v w m n : ℕ} (valid : (Valid v) × (Valid w)) (f : m ≡ degree (exponents v)) (g : n ≡ degree (exponents w)) where
@@ -38,19 +35,19 @@ degree-requires-2 : tie.Need-degree-requires-2
 degree-requires-2 c κs = search needs
 
 returns : tie.Need-returns
-returns c = larger (c .before .before .before .pre) (c .before .before .degree .ensures) (c .before .degree2 .ensures) (omega arith)
+returns c = let d = c .before in larger (d .before .before .pre) (d .before .degree .ensures) (d .degree2 .ensures) (omega arith)
 
 returns-2 : tie.Need-returns-2
-returns-2 c = smaller (c .before .before .before .before .pre) (c .before .before .before .degree .ensures) (c .before .before .degree2 .ensures) (omega arith)
+returns-2 c = let d = c .before .before in smaller (d .before .before .pre) (d .before .degree .ensures) (d .degree2 .ensures) (omega arith)
 
 returns-3 : tie.Need-returns-3
-returns-3 c = level (c .before .before .before .before .before .before .before .pre) (c .before .before .before .before .before .before .degree .ensures) (c .before .before .before .before .before .degree2 .ensures) Ordering·lt (omega arith) (omega arith)
+returns-3 c = let d = c .before .before .before .before .before in level (d .before .before .pre) (d .before .degree .ensures) (d .degree2 .ensures) Ordering·lt (omega arith) (omega arith)
 
 returns-4 : tie.Need-returns-4
-returns-4 c = level (c .before .before .before .before .before .before .before .before .before .before .pre) (c .before .before .before .before .before .before .before .before .before .degree .ensures) (c .before .before .before .before .before .before .before .before .degree2 .ensures) Ordering·gt (omega arith) (omega arith)
+returns-4 c = let d = c .before .before .before .before .before .before .before .before in level (d .before .before .pre) (d .before .degree .ensures) (d .degree2 .ensures) Ordering·gt (omega arith) (omega arith)
 
 returns-5 : tie.Need-returns-5
-returns-5 c = level (c .before .before .before .before .before .before .before .before .before .before .pre) (c .before .before .before .before .before .before .before .before .before .degree .ensures) (c .before .before .before .before .before .before .before .before .degree2 .ensures) Ordering·eq (omega arith) (omega arith)
+returns-5 c = let d = c .before .before .before .before .before .before .before .before in level (d .before .before .pre) (d .before .degree .ensures) (d .degree2 .ensures) Ordering·eq (omega arith) (omega arith)
 
 pub compare-spec : {M : Type 1} → statement M
 compare-spec = tie.close (tie.spec degree-requires degree-requires-2 returns returns-2 returns-3 returns-4 returns-5)

@@ -1,5 +1,5 @@
 -- `Pattern::exponent` meets its contract: the byte of v is what a shift brings lowest.
-use mathlib.Core.Path.{_≡_, sym, _∙_, ap}
+use mathlib.Core.Path.{sym, _∙_, ap}
 use Prim.Native.Nat.{ℕ, _^_, _/_, _%_}
 use borrow.Author.Needs.{needs}
 use Rattle.algebra.proofs.Word.{exponent-bits}
