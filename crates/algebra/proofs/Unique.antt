@@ -16,7 +16,7 @@ use Rattle.algebra.proofs.Pattern.exponent.Reads as exponent
 use Rattle.algebra.proofs.Pattern.slope_step.Reads as slope-step
 
 -- a function's `Learnt` is what its caller learns: of the arguments, the result, and the arguments after the call. It holds of one result.
-abbrev One : {K : Type 0} {Arguments Result Exit : K → Type 0} → ((k : K) → Arguments k → Result k → Exit k → Type 0) → Type 0
+abbrev pub One : {K : Type 0} {Arguments Result Exit : K → Type 0} → ((k : K) → Arguments k → Result k → Exit k → Type 0) → Type 0
 One {K} {Arguments} {Result} {Exit} learnt = (k : K) (a : Arguments k) (r r' : Result k) (e e' : Exit k) → learnt k a r e → learnt k a r' e' → r ≡ r'
 
 -- ---- The four kinds of results, each of which its contract fixes by equations.
