@@ -1,6 +1,9 @@
 pub mod Test
 pub mod Compare
 pub mod Order
+pub mod Fields
+pub mod Word
+pub mod Unique
 pub mod Whole
 pub mod Absolute
 pub mod Total

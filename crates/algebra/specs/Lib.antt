@@ -8,3 +8,4 @@ pub mod Substitute
 pub mod Value
 pub mod Margin
 pub mod Word
+pub mod Standing

@@ -1,3 +1,26 @@
+// Power patterns, each in one machine word.
+ghost use mathlib.Core.Path.{_≡_};
+ghost use Prim.Native.Nat.{_+_, _*_, _-_, _≤_, _<_};
+ghost use Rattle.algebra.specs.Limits.{variables, largestDegree};
+ghost use Rattle.algebra.specs.Pattern.{emptyPattern, times, degree, exponent, lowered, order};
+ghost use Rattle.algebra.specs.Word.{word, exponents, Valid};
+ghost use Rattle.algebra.specs.Standing.{standing};
+
+// Where a pattern stands in the term order, seen from another one.
+pub enum Standing {
+    Before,
+    Same,
+    After,
+}
+
+// What a slope needs of one pattern: the power of the variable, and the pattern with one power less.
+pub struct Step {
+    pub power: u64,
+    pub pattern: Pattern,
+}
+
+// Eight exponents, a byte each, a in the highest byte. The degree stays below 255, so no byte runs
+// over into the next, and whole words can be added, compared and divided.
 pub struct Pattern(pub u64);
 
 impl Pattern {
@@ -6,4 +29,100 @@ impl Pattern {
     pub const LARGEST_DEGREE: u64 = 60;
 
     pub const EMPTY: Pattern = Pattern(0);
+
+    // The next three tie the constants to the definitions.
+    pub fn variables() -> u64
+        ensures { λ r. ⌜ r ≡ variables ⌝ }
+    {
+        Pattern::VARIABLES
+    }
+
+    pub fn largest_degree() -> u64
+        ensures { λ r. ⌜ r ≡ largestDegree ⌝ }
+    {
+        Pattern::LARGEST_DEGREE
+    }
+
+    pub fn empty() -> Pattern
+        ensures { λ r. ⌜ r .0 ≡ word (emptyPattern variables) ⌝ }
+    {
+        Pattern::EMPTY
+    }
+
+    // Exponents add up in their bytes.
+    pub fn product(self, other: Pattern) -> Pattern
+        requires { ⌜ Valid (self .0) ⌝ }
+        requires { ⌜ Valid (other .0) ⌝ }
+        requires { ⌜ degree (exponents (self .0)) + degree (exponents (other .0)) ≤ largestDegree ⌝ }
+        ensures { λ r. ⌜ r .0 ≡ word (times (exponents (self .0)) (exponents (other .0))) ⌝ }
+    {
+        Pattern(self.0 + other.0)
+    }
+
+    // 256 leaves 1 when divided by 255, and so does each of its powers: the remainder is the sum of
+    // the bytes.
+    pub fn degree(self) -> u64
+        requires { ⌜ Valid (self .0) ⌝ }
+        ensures { λ r. ⌜ r ≡ degree (exponents (self .0)) ⌝ }
+    {
+        self.0 % 255
+    }
+
+    // The larger degree stands first. At equal degrees it is the larger word: the first byte in which
+    // the two differ decides.
+    pub fn compare(self, other: Pattern) -> Standing
+        requires { ⌜ Valid (self .0) ⌝ }
+        requires { ⌜ Valid (other .0) ⌝ }
+        ensures { λ r. ⌜ standing r ≡ order (exponents (self .0)) (exponents (other .0)) ⌝ }
+    {
+        let mine = self.degree();
+        let theirs = other.degree();
+        if mine > theirs {
+            return Standing::Before;
+        }
+        if mine < theirs {
+            return Standing::After;
+        }
+        if self.0 > other.0 {
+            return Standing::Before;
+        }
+        if self.0 < other.0 {
+            return Standing::After;
+        }
+        Standing::Same
+    }
+
+    // The bits below the byte of variable v.
+    fn bits_below(v: u64) -> u64
+        requires { ⌜ v < variables ⌝ }
+        ensures { λ r. ⌜ r ≡ 8 * (variables - 1 - v) ⌝ }
+    {
+        8 * (Pattern::VARIABLES - 1 - v)
+    }
+
+    // The power of variable v. It asks for no valid pattern: any word has eight bytes.
+    pub fn exponent(self, v: u64) -> u64
+        requires { ⌜ v < variables ⌝ }
+        ensures { λ r. ⌜ r ≡ exponent v (exponents (self .0)) ⌝ }
+    {
+        (self.0 >> Pattern::bits_below(v)) % 256
+    }
+
+    // A pattern without v is its own step: the power 0 says that its term goes.
+    pub fn slope_step(self, v: u64) -> Step
+        requires { ⌜ Valid (self .0) ⌝ }
+        requires { ⌜ v < variables ⌝ }
+        ensures { λ r. ⌜ (r .power ≡ exponent v (exponents (self .0))) × (r .pattern .0 ≡ word (lowered v (exponents (self .0)))) ⌝ }
+    {
+        let power = self.exponent(v);
+        if power == 0 {
+            return Step {
+                power,
+                pattern: self,
+            };
+        }
+        let one = 1 << Pattern::bits_below(v);
+        let pattern = Pattern(self.0 - one);
+        Step { power, pattern }
+    }
 }

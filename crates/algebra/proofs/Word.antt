@@ -1,0 +1,119 @@
+-- The laws of the layout, a byte for each of the eight variables. What needs a law of `word` or `exponents` finds it here, and opens neither.
+use mathlib.Core.Path.{_≡_, refl, sym, _∙_, ap, ap₂, subst}
+use Prim.Native.Nat.{ℕ, suc, _+_, _*_, _^_, _/_, _%_, _-_, _≤_, _<_, compare}
+use native.Mathlib.Omega.{arith}
+use lib.ListN.{length, set, length-set}
+use lib.Pow.{shl-exact}
+use lib.Seq.{set-getD}
+use Rattle.algebra.specs.Limits.{variables, largestDegree}
+use Rattle.algebra.specs.Pattern.{Pattern, emptyPattern, times, degree, exponent, lowered, thenBy, order}
+use Rattle.algebra.specs.Word.{fieldSize, word, exponents, Valid}
+use Rattle.algebra.proofs.Order.{degree-times}
+use Rattle.algebra.proofs.Fields.{below-degree, fields-below, fields-length, word-lt, fields-word, word-fields-lt, field-at, place-bits, word-zero, degree-zero, length-times, word-times, word-degree, order-word, word-lowered, degree-lowered}
+
+-- ---- There and back.
+
+pub exponents-length : (w : ℕ) → length (exponents w) ≡ variables
+unfolding exponents
+exponents-length w = fields-length fieldSize variables w
+
+pub word-empty : word (emptyPattern variables) ≡ 0
+unfolding word
+word-empty = word-zero fieldSize variables
+
+-- each word of 64 bits is the word of its exponents
+pub word-exponents : (w : ℕ) → w < 2 ^ 64 → word (exponents w) ≡ w
+unfolding word exponents
+word-exponents w h = word-fields-lt fieldSize variables w (omega arith) h
+
+module _ (p : Pattern) (long : length p ≡ variables) (low : degree p ≤ largestDegree) where
+  pub word-small : word p < 2 ^ 64
+  unfolding word
+  word-small = rw long at (word-lt (below-degree fieldSize p (omega arith)))
+
+  pub exponents-word : exponents (word p) ≡ p
+  unfolding word exponents
+  exponents-word = rw long at (fields-word {p = p} (omega arith) (below-degree fieldSize p (omega arith)))
+
+  -- a pattern within the limits has a valid word
+  pub word-valid : Valid (word p)
+  word-valid = record { is = ap word exponents-word; low = rw exponents-word low }
+
+pub exponents-empty : exponents 0 ≡ emptyPattern variables
+exponents-empty = rw word-empty at (exponents-word (emptyPattern variables) refl (omega (arith, degree-zero variables)))
+
+pub empty-valid : Valid 0
+empty-valid = rw word-empty at (word-valid (emptyPattern variables) refl (omega (arith, degree-zero variables)))
+
+-- the exponents tell two valid words apart
+pub valid-one : (v w : ℕ) → Valid v → Valid w → exponents v ≡ exponents w → v ≡ w
+valid-one v w a b h = sym (a .is) ∙ ap word h ∙ b .is
+
+-- ---- The operations of one machine word.
+
+module _ (w : ℕ) (valid : Valid w) where
+  pub valid-small : w < 2 ^ 64
+  valid-small = subst (λ (k : ℕ). k < 2 ^ 64) (valid .is) (word-small (exponents w) (exponents-length w) (valid .low))
+
+  pub valid-degree : w % (fieldSize - 1) ≡ degree (exponents w)
+  unfolding word
+  valid-degree = ap (λ (k : ℕ). k % (fieldSize - 1)) (sym (valid .is)) ∙ word-degree (fieldSize - 1) (exponents w) (omega (arith, valid .low))
+
+module _ (v w : ℕ) (a : Valid v) (b : Valid w) where
+  -- the product's word is the words' sum
+  pub word-product : word (times (exponents v) (exponents w)) ≡ v + w
+  unfolding word
+  word-product =
+      word-times fieldSize (exponents v) (exponents w) (exponents-length v ∙ sym (exponents-length w)) ∙ ap₂ _+_ (a .is) (b .is)
+
+  pub product-valid : degree (exponents v) + degree (exponents w) ≤ largestDegree → Valid (word (times (exponents v) (exponents w)))
+  product-valid h =
+      word-valid (times (exponents v) (exponents w))
+      (length-times (exponents v) (exponents w) (exponents-length v ∙ sym (exponents-length w)) ∙ exponents-length v)
+      (omega (arith, degree-times (exponents v) (exponents w)))
+
+  pub product-small : degree (exponents v) + degree (exponents w) ≤ largestDegree → v + w < 2 ^ 64
+  product-small h = subst (λ (k : ℕ). k < 2 ^ 64) word-product (valid-small (word (times (exponents v) (exponents w))) (product-valid h))
+
+  -- the larger degree first, then the larger word
+  pub word-order : order (exponents v) (exponents w) ≡ thenBy (compare (degree (exponents w)) (degree (exponents v))) (compare w v)
+  unfolding word exponents
+  word-order =
+      order-word (fields-below fieldSize variables v (omega arith)) (fields-below fieldSize variables w (omega arith)) (exponents-length v ∙ sym (exponents-length w))
+      ∙ ap (thenBy (compare (degree (exponents w)) (degree (exponents v)))) (ap₂ compare (b .is) (a .is))
+
+-- ---- One variable. Its exponent and the value of its place are reached by shifts.
+
+-- the bits below the byte of v
+abbrev pub bitsBelow : ℕ → ℕ
+bitsBelow v = 8 * (variables - 1 - v)
+
+place : (v : ℕ) → v < variables → fieldSize ^ (variables - suc v) ≡ 2 ^ bitsBelow v
+place v h = place-bits 8 (variables - suc v) ∙ ap (λ (k : ℕ). 2 ^ k) (omega arith)
+
+-- a shift of 1 by these bits loses nothing
+pub one-shifted : (v k : ℕ) → v < variables → k ≡ bitsBelow v → 1 * 2 ^ k % 2 ^ 64 ≡ 2 ^ bitsBelow v
+one-shifted v k h e = shl-exact {a = 1} 1 k 64 (omega arith) (omega arith) ∙ ap (λ (i : ℕ). 1 * 2 ^ i) e ∙ omega arith
+
+module _ (w v : ℕ) (inside : v < variables) where
+  pub exponent-bits : exponent v (exponents w) ≡ w / 2 ^ bitsBelow v % fieldSize
+  unfolding exponents
+  exponent-bits = rw (← place v inside) (field-at fieldSize variables w v inside)
+
+  pub lowered-valid : Valid w → Valid (word (lowered v (exponents w)))
+  lowered-valid a =
+      word-valid (lowered v (exponents w))
+      (length-set (exponents w) v (exponent v (exponents w) - 1) ∙ exponents-length w)
+      (omega (arith, a .low, degree-lowered (exponents w) v))
+
+  -- one power less takes the value of one place away
+  pub lowered-some : Valid w → 0 < exponent v (exponents w) → word (lowered v (exponents w)) + 2 ^ bitsBelow v ≡ w
+  unfolding word
+  lowered-some a h =
+      rw (exponents-length w, a .is, place v inside) at (word-lowered fieldSize (exponents w) v (rw (exponents-length w) inside) h)
+
+  -- where there is no power the word stays
+  pub lowered-none : Valid w → exponent v (exponents w) ≡ 0 → word (lowered v (exponents w)) ≡ w
+  lowered-none a h =
+      let stays : exponent v (exponents w) - 1 ≡ exponent v (exponents w) = omega arith in
+      ap (λ (e : ℕ). word (set (exponents w) v e)) stays ∙ ap word (set-getD (exponents w) v 0) ∙ a .is
