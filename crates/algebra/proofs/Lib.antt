@@ -17,3 +17,4 @@ pub mod Results
 pub mod Splits
 pub mod Coefficients
 pub mod Slopes
+pub mod Substitutes

@@ -3,9 +3,9 @@ pub mod Pattern
 pub mod Sum
 pub mod Collect
 pub mod Arithmetic
+pub mod Value
 pub mod Slope
 pub mod Substitute
-pub mod Value
 pub mod Margin
 pub mod Word
 pub mod Standing

@@ -1,44 +1,25 @@
 -- Sums put for variables, in n variables.
 use mathlib.Core.List.{List, [], _∷_, _++_}
-use Prim.Native.Nat.{ℕ, _+_, _*_, _^_, max}
-use lib.IntN.{natAbs}
+use Prim.Native.Nat.{ℕ, zero, suc, _+_, _*_, _^_, max}
+use lib.IntN.{ℤ, natAbs}
 use Rattle.algebra.specs.Pattern.{Pattern, degree, exponent, without}
 use Rattle.algebra.specs.Sum.{Term, term, Sum, degreeOf, weight}
 use Rattle.algebra.specs.Collect.{collect, spread}
 use Rattle.algebra.specs.Arithmetic.{unit, row, _⊗_, power, powerSpread}
+use Rattle.algebra.specs.Value.{value}
 
--- ---- All at once: each variable is kept, or a sum is put for it.
+-- each term's coefficient, times its other exponents, times its factor: one row for each term
+unfoldable pub rows : (Pattern → Pattern) → (Pattern → Sum) → Sum → List Term
+rows other factor [] = []
+rows other factor (t ∷ s) = row (term (t .coefficient) (other (t .pattern))) (factor (t .pattern)) ++ rows other factor s
 
-pub data Put : Type 0 where
-  kept : Put
-  put : Sum → Put
+-- ---- One pair: S is put for v. The factor of a term with the power k of v is S^k.
 
--- a term's other exponents: those of the variables that are kept
-unfoldable pub others : List Put → Pattern → Pattern
-others [] p = p
-others (w ∷ ws) [] = []
-others (kept ∷ ws) (e ∷ p) = e ∷ others ws p
-others (put S ∷ ws) (e ∷ p) = 0 ∷ others ws p
-
--- the powers of the sums that are put, multiplied
-unfoldable pub factor : ℕ → List Put → Pattern → Sum
-factor n [] p = unit n
-factor n (w ∷ ws) [] = unit n
-factor n (kept ∷ ws) (e ∷ p) = factor n ws p
-factor n (put S ∷ ws) (e ∷ p) = power n S e ⊗ factor n ws p
-
-unfoldable pub putRows : ℕ → List Put → Sum → List Term
-putRows n ws [] = []
-putRows n ws (t ∷ s) = row (term (t .coefficient) (others ws (t .pattern))) (factor n ws (t .pattern)) ++ putRows n ws s
-
-unfoldable pub putAll : ℕ → List Put → Sum → Sum
-putAll n ws s = collect (putRows n ws s)
-
--- ---- One pair: S is put for v. A term c·p with the power k of v becomes c, times its other exponents, times S^k.
+abbrev pub pairFactor : ℕ → ℕ → Sum → Pattern → Sum
+pairFactor n v S p = power n S (exponent v p)
 
 unfoldable pub pairRows : ℕ → ℕ → Sum → Sum → List Term
-pairRows n v S [] = []
-pairRows n v S (t ∷ s) = row (term (t .coefficient) (without v (t .pattern))) (power n S (exponent v (t .pattern))) ++ pairRows n v S s
+pairRows n v S s = rows (without v) (pairFactor n v S) s
 
 unfoldable pub substitute : ℕ → ℕ → Sum → Sum → Sum
 substitute n v S s = collect (pairRows n v S s)
@@ -61,3 +42,38 @@ largestPower v (t ∷ s) = max (exponent v (t .pattern)) (largestPower v s)
 -- each step of S^2, S^3 up to the largest power of v; then the different patterns among all terms' products together
 unfoldable pub pairSpread : ℕ → ℕ → Sum → Sum → ℕ
 pairSpread n v S s = max (powerSpread n S (largestPower v s)) (spread (pairRows n v S s))
+
+-- ---- All at once, the general case: each variable is kept, or a sum is put for it.
+
+pub data Put : Type 0 where
+  kept : Put
+  put : Sum → Put
+
+-- a pattern's other exponents: those of the variables that are kept
+unfoldable pub others : List Put → Pattern → Pattern
+others [] p = p
+others (w ∷ ws) [] = []
+others (kept ∷ ws) (e ∷ p) = e ∷ others ws p
+others (put S ∷ ws) (e ∷ p) = 0 ∷ others ws p
+
+-- the powers of the sums that are put, multiplied
+unfoldable pub putFactor : ℕ → List Put → Pattern → Sum
+putFactor n [] p = unit n
+putFactor n (w ∷ ws) [] = unit n
+putFactor n (kept ∷ ws) (e ∷ p) = putFactor n ws p
+putFactor n (put S ∷ ws) (e ∷ p) = power n S e ⊗ putFactor n ws p
+
+unfoldable pub putAll : ℕ → List Put → Sum → Sum
+putAll n ws s = collect (rows (others ws) (putFactor n ws) s)
+
+-- the values that the variables then stand for: a kept variable's own value in y, else that of the sum put for it, at x
+unfoldable pub replacedBy : List Put → List ℤ → List ℤ → List ℤ
+replacedBy [] x y = y
+replacedBy (w ∷ ws) x [] = []
+replacedBy (kept ∷ ws) x (a ∷ y) = a ∷ replacedBy ws x y
+replacedBy (put S ∷ ws) x (a ∷ y) = value S x ∷ replacedBy ws x y
+
+-- S is put for v, and all other variables are kept
+unfoldable pub onlyPut : ℕ → Sum → List Put
+onlyPut zero S = put S ∷ []
+onlyPut (suc v) S = kept ∷ onlyPut v S
