@@ -18,3 +18,6 @@ pub mod Splits
 pub mod Coefficients
 pub mod Slopes
 pub mod Substitutes
+pub mod Solve
+pub mod Margins
+pub mod Cases
