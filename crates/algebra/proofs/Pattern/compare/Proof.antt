@@ -5,8 +5,8 @@ use native.Mathlib.Omega.{arith}
 use borrow.Author.Needs.{needs}
 use Rattle.algebra.specs.Pattern.{degree, thenBy, order}
 use Rattle.algebra.specs.Word.{exponents, Valid}
-use Rattle.algebra.proofs.Compare.{Says, compare-says, compare-is}
-use Rattle.algebra.proofs.Word.{word-order}
+use Rattle.algebra.proofs.Numbers.Compare.{Says, compare-says, compare-is}
+use Rattle.algebra.proofs.Patterns.Word.{word-order}
 use Rattle.algebra.proofs.Pattern.compare.Statement.{statement}
 use Rattle.algebra.proofs.Pattern.compare.Tie as tie
 

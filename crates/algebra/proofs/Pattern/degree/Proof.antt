@@ -1,5 +1,5 @@
 -- `Pattern::degree` meets its contract: the remainder of a valid word by 255 is its degree.
-use Rattle.algebra.proofs.Word.{valid-degree}
+use Rattle.algebra.proofs.Patterns.Word.{valid-degree}
 use Rattle.algebra.proofs.Pattern.degree.Statement.{statement}
 use Rattle.algebra.proofs.Pattern.degree.Tie as tie
 

@@ -2,7 +2,7 @@
 use mathlib.Core.Path.{sym, _∙_, ap}
 use Prim.Native.Nat.{ℕ, _^_, _/_, _%_}
 use borrow.Author.Needs.{needs}
-use Rattle.algebra.proofs.Word.{exponent-bits}
+use Rattle.algebra.proofs.Patterns.Word.{exponent-bits}
 use Rattle.algebra.proofs.Pattern.exponent.Statement.{statement}
 use Rattle.algebra.proofs.Pattern.exponent.Tie as tie
 

@@ -1,6 +1,6 @@
 -- `Pattern::product` meets its contract: the words add up, and the sum is a valid word, so that it fits.
 use mathlib.Core.Path.{sym}
-use Rattle.algebra.proofs.Word.{word-product, product-small}
+use Rattle.algebra.proofs.Patterns.Word.{word-product, product-small}
 use Rattle.algebra.proofs.Pattern.product.Statement.{statement}
 use Rattle.algebra.proofs.Pattern.product.Tie as tie
 

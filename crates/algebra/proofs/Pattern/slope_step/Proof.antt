@@ -6,7 +6,7 @@ use borrow.Author.Needs.{needs}
 use Rattle.algebra.specs.Limits.{variables}
 use Rattle.algebra.specs.Pattern.{exponent, lowered}
 use Rattle.algebra.specs.Word.{word, exponents, Valid}
-use Rattle.algebra.proofs.Word.{bitsBelow, one-shifted, lowered-some, lowered-none}
+use Rattle.algebra.proofs.Patterns.Word.{bitsBelow, one-shifted, lowered-some, lowered-none}
 use Rattle.algebra.proofs.Pattern.slope_step.Statement.{statement}
 use Rattle.algebra.proofs.Pattern.slope_step.Tie as tie
 

@@ -8,59 +8,24 @@ use native.Mathlib.Nat.{le-refl, le-trans, mul-le-mul-left, add-zero}
 use lib.Dec.{T}
 use lib.IntN.{ℤ, pos, natAbs, _+ℤ_, _*ℤ_, +ℤ-idl, *ℤ-comm, *ℤ-zero, zero-*ℤ}
 use lib.ListN.{length, getD, set, replicate, length-set, length-map}
-use lib.Seq.{getD-set-same, set-set, set-getD}
 use Rattle.algebra.specs.Pattern.{Pattern, emptyPattern, times, degree, exponent, raised, lowered, same}
 use Rattle.algebra.specs.Sum.{Term, term, Sum, ordered, degreeOf, weight}
 use Rattle.algebra.specs.Collect.{gather, dropZeros, collect}
 use Rattle.algebra.specs.Arithmetic.{constant, timesTerm, pairs, _⊕_, _⊗_}
 use Rattle.algebra.specs.Slope.{slopeTerm, slope}
 use Rattle.algebra.specs.Value.{total, onlyIf, coefficientIn, coefficient}
-use Rattle.algebra.proofs.Whole.{*ℤ-assoc, *ℤ-+ℤ, +ℤ-*ℤ, *ℤ-left-comm}
-use Rattle.algebra.proofs.Absolute.{abs-mul}
-use Rattle.algebra.proofs.Order.{same-self, same-eq}
-use Rattle.algebra.proofs.Total.{Additive, total-ext, total-map, total-append, total-plus, total-times, total-none, pairs-total, collect-total}
-use Rattle.algebra.proofs.Every.{Every, Long, UpTo, degree-every, every-degree, collect-every}
-use Rattle.algebra.proofs.Ordered.{Parts, parts, collect-ordered}
-use Rattle.algebra.proofs.Occurs.{true-is, false-is, collect-length, spread-length}
-use Rattle.algebra.proofs.Equal.{coefficient-additive, collect-equal}
-use Rattle.algebra.proofs.Ring.{times-comm, sum-total, product-total, left-additive, right-additive, sum-zero, zero-product}
-use Rattle.algebra.proofs.Results.{product-ordered, constant-ordered, collect-weight}
-
--- ---- One power more and one power less.
-
-module _ (v : ℕ) (p : Pattern) where
-  pub raised-exponent : v < length p → exponent v (raised v p) ≡ suc (exponent v p)
-  raised-exponent h = getD-set-same p v (suc (exponent v p)) 0 h
-
-  pub lowered-raised : v < length p → lowered v (raised v p) ≡ p
-  lowered-raised h =
-      set-set p v (suc (exponent v p)) (exponent v (raised v p) - 1)
-      ∙ ap (set p v) (ap (λ n. n - 1) (raised-exponent h) ∙ omega arith) ∙ set-getD p v 0
-
-present : (v : ℕ) (p : Pattern) → 0 < exponent v p → v < length p
-present v [] h = absurd (omega arith)
-present zero (e ∷ p) h = omega arith
-present (suc v) (e ∷ p) h = omega (arith, present v p h)
-
-pub raised-lowered : (v : ℕ) (p : Pattern) → 0 < exponent v p → raised v (lowered v p) ≡ p
-raised-lowered v p h =
-    set-set p v (exponent v p - 1) (suc (exponent v (lowered v p)))
-    ∙ ap (set p v) (ap suc (getD-set-same p v (exponent v p - 1) 0 (present v p h)) ∙ omega arith) ∙ set-getD p v 0
-
-pub exponent-times : (v : ℕ) (p q : Pattern) → exponent v (times p q) ≡ exponent v p + exponent v q
-unfolding times
-exponent-times v [] q = omega arith
-exponent-times v (e ∷ p) [] = omega arith
-exponent-times zero (e ∷ p) (f ∷ q) = refl
-exponent-times (suc v) (e ∷ p) (f ∷ q) = exponent-times v p q
-
-lowered-times : (v : ℕ) (p q : Pattern) → 0 < exponent v p → lowered v (times p q) ≡ times (lowered v p) q
-unfolding times
-lowered-times v [] q h = absurd (omega arith)
-lowered-times zero (e ∷ p) [] h = refl
-lowered-times (suc v) (e ∷ p) [] h = refl
-lowered-times zero (e ∷ p) (f ∷ q) h = ap (λ n. n ∷ times p q) (omega arith)
-lowered-times (suc v) (e ∷ p) (f ∷ q) h = ap (λ r. (e + f) ∷ r) (lowered-times v p q h)
+use Rattle.algebra.proofs.Numbers.Whole.{*ℤ-assoc, *ℤ-+ℤ, +ℤ-*ℤ, *ℤ-left-comm}
+use Rattle.algebra.proofs.Numbers.Absolute.{abs-mul}
+use Rattle.algebra.proofs.Patterns.Laws.{times-comm, set-degree, exponent-degree, raised-exponent, lowered-raised, raised-lowered, exponent-times, lowered-times, empty-exponent}
+use Rattle.algebra.proofs.Patterns.Order.{same-self, same-eq}
+use Rattle.algebra.proofs.Numbers.Test.{true-is, false-is}
+use Rattle.algebra.proofs.Sums.Total.{Additive, total-ext, total-map, total-append, total-plus, total-times, total-none, pairs-total, collect-total}
+use Rattle.algebra.proofs.Sums.Every.{Every, Long, UpTo, degree-every, every-degree, collect-every}
+use Rattle.algebra.proofs.Sums.Ordered.{Parts, parts, collect-ordered}
+use Rattle.algebra.proofs.Sums.Occurs.{collect-length, spread-length}
+use Rattle.algebra.proofs.Sums.Equal.{coefficient-additive, collect-equal}
+use Rattle.algebra.proofs.Sums.Ring.{sum-total, product-total, left-additive, right-additive, sum-zero, zero-product}
+use Rattle.algebra.proofs.Sums.Results.{product-ordered, constant-ordered, collect-weight}
 
 -- ---- Totals.
 
@@ -175,11 +140,6 @@ pub slope-constant : (n v : ℕ) (c : ℤ) → slope v (constant n c) ≡ []
 unfolding collect gather dropZeros
 slope-constant n v c = unfold slope in collect-equal (map (slopeTerm v) (constant n c)) [] agree
   where
-    empty-exponent : (n v : ℕ) → exponent v (emptyPattern n) ≡ 0
-    empty-exponent zero v = refl
-    empty-exponent (suc n) zero = refl
-    empty-exponent (suc n) (suc v) = empty-exponent n v
-
     agree : (f : Term → ℤ) → Additive f → total f (map (slopeTerm v) (constant n c)) ≡ total f []
     agree f A =
         total-map f (slopeTerm v) (constant n c) ∙ unfold constant in collect-total _ (slope-additive v f A) (term c (emptyPattern n) ∷ [])
@@ -193,12 +153,6 @@ slope-multiple n v c s h =
 
 -- ---- Degree, weight and number of terms.
 
-set-degree : (v e : ℕ) (p : Pattern) → e ≤ exponent v p → degree (set p v e) ≤ degree p
-unfolding degree
-set-degree v e [] h = omega arith
-set-degree zero e (f ∷ p) h = omega arith
-set-degree (suc v) e (f ∷ p) h = omega (arith, set-degree v e p h)
-
 pub slope-degree : (v : ℕ) (s : Sum) → degreeOf (slope v s) ≤ degreeOf s
 unfolding slope
 slope-degree v s = every-degree _ (collect (map (slopeTerm v) s)) (collect-every (UpTo (degreeOf s)) (map (slopeTerm v) s) (each s (degree-every _ s (le-refl _))))
@@ -210,12 +164,6 @@ slope-degree v s = every-degree _ (collect (map (slopeTerm v) s)) (collect-every
 pub slope-length : (v : ℕ) (s : Sum) → length (slope v s) ≤ length s
 unfolding slope
 slope-length v s = omega (arith, collect-length (map (slopeTerm v) s), spread-length (map (slopeTerm v) s), length-map s (slopeTerm v))
-
-exponent-degree : (v : ℕ) (p : Pattern) → exponent v p ≤ degree p
-unfolding degree
-exponent-degree v [] = omega arith
-exponent-degree zero (e ∷ p) = omega arith
-exponent-degree (suc v) (e ∷ p) = omega (arith, exponent-degree v p)
 
 terms-weight : (m v : ℕ) (s : Sum) → Every (UpTo m) s → weight (map (slopeTerm v) s) ≤ m * weight s
 unfolding weight

@@ -2,43 +2,19 @@
 use mathlib.Core.Path.{_≡_, refl, sym, _∙_, ap, ap₂}
 use mathlib.Core.List.{List, [], _∷_, _++_}
 use Prim.Native.Nat.{ℕ, zero, suc, _+_}
-use native.Mathlib.Omega.{arith}
-use native.Mathlib.Nat.{add-comm, add-assoc, zero-add}
 use lib.Dec.{T}
 use lib.IntN.{ℤ, pos, _+ℤ_, _*ℤ_, +ℤ-comm, +ℤ-assoc, +ℤ-idr, *ℤ-comm, zero-*ℤ, *ℤ-zero}
-use lib.ListN.{length, replicate}
 use Rattle.algebra.specs.Pattern.{Pattern, emptyPattern, times}
 use Rattle.algebra.specs.Sum.{Term, term, Sum, ordered}
 use Rattle.algebra.specs.Collect.{gather, dropZeros, collect}
 use Rattle.algebra.specs.Arithmetic.{unit, timesTerm, row, pairs, _⊕_, _⊗_, power}
 use Rattle.algebra.specs.Value.{total}
-use Rattle.algebra.proofs.Whole.{*ℤ-assoc, *ℤ-+ℤ, +ℤ-*ℤ, one-*ℤ}
-use Rattle.algebra.proofs.Total.{Additive, total-ext, total-append, total-plus, total-none, total-swap, pairs-total, collect-total}
-use Rattle.algebra.proofs.Every.{Every, Long}
-use Rattle.algebra.proofs.Ordered.{Parts, parts, collect-fixed}
-use Rattle.algebra.proofs.Equal.{collect-equal}
-
--- ---- Patterns.
-
-pub times-comm : (p q : Pattern) → times p q ≡ times q p
-unfolding times
-times-comm [] [] = refl
-times-comm [] (f ∷ q) = refl
-times-comm (e ∷ p) [] = refl
-times-comm (e ∷ p) (f ∷ q) = ap₂ _∷_ (add-comm e f) (times-comm p q)
-
-pub times-assoc : (p q r : Pattern) → times (times p q) r ≡ times p (times q r)
-unfolding times
-times-assoc [] q r = refl
-times-assoc (e ∷ p) [] r = refl
-times-assoc (e ∷ p) (f ∷ q) [] = refl
-times-assoc (e ∷ p) (f ∷ q) (g ∷ r) = ap₂ _∷_ (add-assoc e f g) (times-assoc p q r)
-
-pub empty-times : (n : ℕ) (q : Pattern) → length q ≡ n → times (emptyPattern n) q ≡ q
-unfolding times
-empty-times zero q h = refl
-empty-times (suc n) [] h = absurd (omega arith)
-empty-times (suc n) (f ∷ q) h = ap₂ _∷_ (zero-add f) (empty-times n q (omega arith))
+use Rattle.algebra.proofs.Numbers.Whole.{*ℤ-assoc, *ℤ-+ℤ, +ℤ-*ℤ, one-*ℤ}
+use Rattle.algebra.proofs.Patterns.Laws.{times-comm, times-assoc, empty-times}
+use Rattle.algebra.proofs.Sums.Total.{Additive, total-ext, total-append, total-plus, total-none, total-swap, pairs-total, collect-total}
+use Rattle.algebra.proofs.Sums.Every.{Every, Long}
+use Rattle.algebra.proofs.Sums.Ordered.{Parts, parts, collect-fixed}
+use Rattle.algebra.proofs.Sums.Equal.{collect-equal}
 
 -- ---- A product's total, over the pairs; it is additive in each operand.
 

@@ -8,8 +8,8 @@ use lib.Seq.{set-getD}
 use Rattle.algebra.specs.Limits.{variables, largestDegree}
 use Rattle.algebra.specs.Pattern.{Pattern, emptyPattern, times, degree, exponent, lowered, thenBy, order}
 use Rattle.algebra.specs.Word.{fieldSize, word, exponents, Valid}
-use Rattle.algebra.proofs.Order.{degree-times}
-use Rattle.algebra.proofs.Fields.{below-degree, fields-below, fields-length, word-lt, fields-word, word-fields-lt, field-at, place-bits, word-zero, degree-zero, length-times, word-times, word-degree, order-word, word-lowered, degree-lowered}
+use Rattle.algebra.proofs.Patterns.Laws.{times-length, degree-times, empty-degree, set-degree}
+use Rattle.algebra.proofs.Patterns.Fields.{below-degree, fields-below, fields-length, word-lt, fields-word, word-fields-lt, field-at, place-bits, word-zero, word-times, word-degree, order-word, word-lowered}
 
 -- ---- There and back.
 
@@ -40,10 +40,10 @@ module _ (p : Pattern) (long : length p ≡ variables) (low : degree p ≤ large
   word-valid = record { is = ap word exponents-word; low = rw exponents-word low }
 
 pub exponents-empty : exponents 0 ≡ emptyPattern variables
-exponents-empty = rw word-empty at (exponents-word (emptyPattern variables) refl (omega (arith, degree-zero variables)))
+exponents-empty = rw word-empty at (exponents-word (emptyPattern variables) refl (omega (arith, empty-degree variables)))
 
 pub empty-valid : Valid 0
-empty-valid = rw word-empty at (word-valid (emptyPattern variables) refl (omega (arith, degree-zero variables)))
+empty-valid = rw word-empty at (word-valid (emptyPattern variables) refl (omega (arith, empty-degree variables)))
 
 -- the exponents tell two valid words apart
 pub valid-one : (v w : ℕ) → Valid v → Valid w → exponents v ≡ exponents w → v ≡ w
@@ -69,7 +69,7 @@ module _ (v w : ℕ) (a : Valid v) (b : Valid w) where
   pub product-valid : degree (exponents v) + degree (exponents w) ≤ largestDegree → Valid (word (times (exponents v) (exponents w)))
   product-valid h =
       word-valid (times (exponents v) (exponents w))
-      (length-times (exponents v) (exponents w) (exponents-length v ∙ sym (exponents-length w)) ∙ exponents-length v)
+      (times-length variables (exponents v) (exponents w) (exponents-length v) (exponents-length w))
       (omega (arith, degree-times (exponents v) (exponents w)))
 
   pub product-small : degree (exponents v) + degree (exponents w) ≤ largestDegree → v + w < 2 ^ 64
@@ -104,7 +104,7 @@ module _ (w v : ℕ) (inside : v < variables) where
   lowered-valid a =
       word-valid (lowered v (exponents w))
       (length-set (exponents w) v (exponent v (exponents w) - 1) ∙ exponents-length w)
-      (omega (arith, a .low, degree-lowered (exponents w) v))
+      (omega (arith, a .low, set-degree v (exponent v (exponents w) - 1) (exponents w) (omega arith)))
 
   -- one power less takes the value of one place away
   pub lowered-some : Valid w → 0 < exponent v (exponents w) → word (lowered v (exponents w)) + 2 ^ bitsBelow v ≡ w

@@ -12,12 +12,12 @@ use Rattle.algebra.specs.Pattern.{Pattern, times, same}
 use Rattle.algebra.specs.Sum.{Term, term, Sum, inVariables}
 use Rattle.algebra.specs.Arithmetic.{timesTerm, _⊗_}
 use Rattle.algebra.specs.Value.{total, onlyIf, coefficientIn, coefficient, splitNumber, splitPattern}
-use Rattle.algebra.proofs.Whole.{*ℤ-+ℤ, +ℤ-left-comm}
-use Rattle.algebra.proofs.Total.{total-ext, total-times}
-use Rattle.algebra.proofs.Every.{Every, Long, variables-every}
-use Rattle.algebra.proofs.Occurs.{true-is, false-is}
-use Rattle.algebra.proofs.Equal.{coefficient-additive}
-use Rattle.algebra.proofs.Ring.{product-total}
+use Rattle.algebra.proofs.Numbers.Whole.{*ℤ-+ℤ, +ℤ-left-comm}
+use Rattle.algebra.proofs.Sums.Total.{total-ext, total-times}
+use Rattle.algebra.proofs.Sums.Every.{Every, Long, variables-every}
+use Rattle.algebra.proofs.Numbers.Test.{true-is, false-is}
+use Rattle.algebra.proofs.Sums.Equal.{coefficient-additive}
+use Rattle.algebra.proofs.Sums.Ring.{product-total}
 
 mix : (a b c d : ℤ) → (a +ℤ b) +ℤ (c +ℤ d) ≡ (a +ℤ c) +ℤ (b +ℤ d)
 mix a b c d = simp (+ℤ-assoc, +ℤ-left-comm)

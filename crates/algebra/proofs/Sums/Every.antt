@@ -10,7 +10,7 @@ use Rattle.algebra.specs.Pattern.{Pattern, times, degree, order}
 use Rattle.algebra.specs.Sum.{Term, term, Sum, isZero, inVariables, degreeOf}
 use Rattle.algebra.specs.Collect.{place, insert, gather, keep, dropZeros, collect}
 use Rattle.algebra.specs.Arithmetic.{row, pairs}
-use Rattle.algebra.proofs.Test.{and, and-l, and-r}
+use Rattle.algebra.proofs.Numbers.Test.{and, and-l, and-r}
 
 abbrev pub Every : (Pattern → Type 0) → List Term → Type 0
 Every P [] = Unit {0}

@@ -12,10 +12,10 @@ use Rattle.algebra.specs.Sum.{Term, term, Sum}
 use Rattle.algebra.specs.Collect.{place, insert, gather, keep, dropZeros, collect}
 use Rattle.algebra.specs.Arithmetic.{row, pairs, _⊕_, _⊗_}
 use Rattle.algebra.specs.Value.{total, patternValue, value}
-use Rattle.algebra.proofs.Whole.{one-*ℤ, *ℤ-oner, negℤ-*ℤ}
-use Rattle.algebra.proofs.Test.{and-l, and-r}
-use Rattle.algebra.proofs.Order.{same-eq}
-use Rattle.algebra.proofs.Values.{collect-value, sum-value, product-value}
+use Rattle.algebra.proofs.Numbers.Whole.{one-*ℤ, *ℤ-oner, negℤ-*ℤ}
+use Rattle.algebra.proofs.Numbers.Test.{and-l, and-r}
+use Rattle.algebra.proofs.Patterns.Order.{same-eq}
+use Rattle.algebra.proofs.Sums.Values.{collect-value, sum-value, product-value}
 
 pub data Formula : Type 0 where
   v : ℕ → Formula
@@ -27,7 +27,6 @@ infixl 6 _:+_
 infixl 7 _:*_
 infix 8 :-_
 infixl 6 _:-_
-
 abbrev pub _:-_ : Formula → Formula → Formula
 e :- f = e :+ (:- f)
 

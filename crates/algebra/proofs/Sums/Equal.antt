@@ -12,12 +12,13 @@ use Rattle.algebra.specs.Pattern.{Pattern, same, order}
 use Rattle.algebra.specs.Sum.{Term, term, Sum, isZero, ahead, inOrder, noZero, ordered}
 use Rattle.algebra.specs.Collect.{collect, occurs}
 use Rattle.algebra.specs.Value.{total, onlyIf, coefficientIn, coefficient}
-use Rattle.algebra.proofs.Whole.{+ℤ-cancel}
-use Rattle.algebra.proofs.Order.{same-self, same-eq, order-eq}
-use Rattle.algebra.proofs.Total.{Additive, collect-total, zero-is}
-use Rattle.algebra.proofs.Every.{Every, Long}
-use Rattle.algebra.proofs.Ordered.{Parts, parts, is-before, order-back, order-head, order-tail, full-head, full-tail, collect-order, collect-full}
-use Rattle.algebra.proofs.Occurs.{true-is, false-is, occurs-cons, occurs-first, ahead-absent, absent-coefficient}
+use Rattle.algebra.proofs.Numbers.Whole.{+ℤ-cancel}
+use Rattle.algebra.proofs.Numbers.Test.{true-is, false-is}
+use Rattle.algebra.proofs.Patterns.Order.{same-self, same-eq, order-eq}
+use Rattle.algebra.proofs.Sums.Total.{Additive, collect-total, zero-is}
+use Rattle.algebra.proofs.Sums.Every.{Every, Long}
+use Rattle.algebra.proofs.Sums.Ordered.{Parts, parts, is-before, order-back, order-head, order-tail, full-head, full-tail, collect-order, collect-full}
+use Rattle.algebra.proofs.Sums.Occurs.{occurs-cons, occurs-first, ahead-absent, absent-coefficient}
 
 true-not-false : true ≡ false → ⊥
 true-not-false e = let z : _≡_ {A = ℕ} 0 1 = cc in omega arith

@@ -9,9 +9,9 @@ use Rattle.algebra.specs.Sum.{Term, term, Sum}
 use Rattle.algebra.specs.Collect.{collect}
 use Rattle.algebra.specs.Arithmetic.{constant, variable, _⊕_}
 use Rattle.algebra.specs.Value.{total, onlyIf, coefficientIn, coefficient}
-use Rattle.algebra.proofs.Total.{collect-total}
-use Rattle.algebra.proofs.Equal.{coefficient-additive}
-use Rattle.algebra.proofs.Ring.{sum-total}
+use Rattle.algebra.proofs.Sums.Total.{collect-total}
+use Rattle.algebra.proofs.Sums.Equal.{coefficient-additive}
+use Rattle.algebra.proofs.Sums.Ring.{sum-total}
 
 pub collect-coefficient : (l : List Term) (r : Pattern) → coefficient (collect l) r ≡ coefficient l r
 unfolding coefficient

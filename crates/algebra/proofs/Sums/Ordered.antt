@@ -8,10 +8,10 @@ use lib.IntN.{ℤ, pos, negsuc}
 use Rattle.algebra.specs.Pattern.{Pattern, order}
 use Rattle.algebra.specs.Sum.{Term, term, Sum, isZero, isBefore, ahead, inOrder, noZero, inVariables, ordered}
 use Rattle.algebra.specs.Collect.{place, insert, gather, keep, dropZeros, collect}
-use Rattle.algebra.proofs.Test.{and, and-l, and-r}
-use Rattle.algebra.proofs.Compare.{turn}
-use Rattle.algebra.proofs.Order.{order-eq, order-turn, order-trans}
-use Rattle.algebra.proofs.Every.{Every, Long, variables-every, every-variables, collect-every}
+use Rattle.algebra.proofs.Numbers.Test.{and, and-l, and-r}
+use Rattle.algebra.proofs.Numbers.Compare.{turn}
+use Rattle.algebra.proofs.Patterns.Order.{order-eq, order-turn, order-trans}
+use Rattle.algebra.proofs.Sums.Every.{Every, Long, variables-every, every-variables, collect-every}
 
 -- ---- The test taken apart and put together.
 

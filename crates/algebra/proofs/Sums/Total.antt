@@ -10,8 +10,8 @@ use Rattle.algebra.specs.Sum.{Term, term, Sum, isZero}
 use Rattle.algebra.specs.Collect.{place, insert, gather, keep, dropZeros, collect}
 use Rattle.algebra.specs.Arithmetic.{timesTerm, row, pairs}
 use Rattle.algebra.specs.Value.{total}
-use Rattle.algebra.proofs.Whole.{*ℤ-+ℤ, +ℤ-left-comm}
-use Rattle.algebra.proofs.Order.{order-eq}
+use Rattle.algebra.proofs.Numbers.Whole.{*ℤ-+ℤ, +ℤ-left-comm}
+use Rattle.algebra.proofs.Patterns.Order.{order-eq}
 
 pub record Additive (f : Term → ℤ) : Type 0 where
   pub plus : (c d : ℤ) (p : Pattern) → f (term (c +ℤ d) p) ≡ f (term c p) +ℤ f (term d p)

@@ -11,8 +11,8 @@ use Rattle.algebra.specs.Sum.{Term, term, Sum}
 use Rattle.algebra.specs.Collect.{collect}
 use Rattle.algebra.specs.Arithmetic.{constant, variable, unit, timesTerm, row, pairs, _⊕_, _⊗_, power}
 use Rattle.algebra.specs.Value.{total, patternValue, termValue, value}
-use Rattle.algebra.proofs.Whole.{*ℤ-assoc, +ℤ-*ℤ, one-*ℤ, *ℤ-oner, *ℤ-left-comm}
-use Rattle.algebra.proofs.Total.{Additive, total-ext, total-append, total-times, row-total, pairs-total, collect-total}
+use Rattle.algebra.proofs.Numbers.Whole.{*ℤ-assoc, +ℤ-*ℤ, one-*ℤ, *ℤ-oner, *ℤ-left-comm}
+use Rattle.algebra.proofs.Sums.Total.{Additive, total-ext, total-append, total-times, row-total, pairs-total, collect-total}
 
 pub value-additive : (x : List ℤ) → Additive (termValue x)
 value-additive x = record { plus = λ c d p. +ℤ-*ℤ c d (patternValue p x); none = λ p. zero-*ℤ (patternValue p x) }

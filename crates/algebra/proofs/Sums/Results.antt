@@ -12,21 +12,14 @@ use Rattle.algebra.specs.Pattern.{Pattern, emptyPattern, times, degree, 
 use Rattle.algebra.specs.Sum.{Term, term, Sum, isZero, ahead, inOrder, noZero, ordered, degreeOf, weight}
 use Rattle.algebra.specs.Collect.{place, insert, gather, keep, dropZeros, collect, spread}
 use Rattle.algebra.specs.Arithmetic.{constant, variable, unit, row, pairs, _⊕_, sumSpread, _⊗_, productSpread, power, powerSpread}
-use Rattle.algebra.proofs.Absolute.{abs-add, abs-mul}
-use Rattle.algebra.proofs.Order.{degree-times}
-use Rattle.algebra.proofs.Total.{zero-is}
-use Rattle.algebra.proofs.Every.{Every, every-map, append-every, collect-every, pairs-every, Long, UpTo, degree-every, every-degree}
-use Rattle.algebra.proofs.Ordered.{Parts, parts, whole, collect-ordered}
-use Rattle.algebra.proofs.Occurs.{collect-length}
+use Rattle.algebra.proofs.Numbers.Absolute.{abs-add, abs-mul}
+use Rattle.algebra.proofs.Patterns.Laws.{times-length, times-degree, empty-degree}
+use Rattle.algebra.proofs.Sums.Total.{zero-is}
+use Rattle.algebra.proofs.Sums.Every.{Every, every-map, append-every, collect-every, pairs-every, Long, UpTo, degree-every, every-degree}
+use Rattle.algebra.proofs.Sums.Ordered.{Parts, parts, whole, collect-ordered}
+use Rattle.algebra.proofs.Sums.Occurs.{collect-length}
 
 -- ---- Ordered.
-
-pub times-length : (n : ℕ) (p q : Pattern) → length p ≡ n → length q ≡ n → length (times p q) ≡ n
-unfolding times
-times-length n [] q h k = k
-times-length n (e ∷ p) [] h k = h
-times-length zero (e ∷ p) (f ∷ q) h k = absurd (omega arith)
-times-length (suc n) (e ∷ p) (f ∷ q) h k = ap suc (times-length n p q (omega arith) (omega arith))
 
 one-term : (n : ℕ) (c : ℤ) (p : Pattern) → T (noZero (term c p ∷ [])) → length p ≡ n → T (ordered n (term c p ∷ []))
 one-term n c p h k = whole n (term c p ∷ []) (record { strict = unfold inOrder ahead in tt; full = h; long = (k, tt) })
@@ -66,20 +59,12 @@ sum-degree s t =
     (collect-every (UpTo (max (degreeOf s) (degreeOf t))) (s ++ t)
     (append-every _ s t (degree-every _ s (le-max-left (degreeOf s) (degreeOf t))) (degree-every _ t (le-max-right (degreeOf s) (degreeOf t)))))
 
-pub times-degree : (a b : ℕ) (p q : Pattern) → degree p ≤ a → degree q ≤ b → degree (times p q) ≤ a + b
-times-degree a b p q h k = omega (arith, degree-times p q)
-
 pub product-degree : (s t : Sum) → degreeOf (s ⊗ t) ≤ degreeOf s + degreeOf t
 unfolding _⊗_
 product-degree s t =
     every-degree _ (collect (pairs s t))
     (collect-every (UpTo (degreeOf s + degreeOf t)) (pairs s t)
     (pairs-every (UpTo (degreeOf s)) (UpTo (degreeOf t)) _ (times-degree (degreeOf s) (degreeOf t)) s t (degree-every _ s (le-refl _)) (degree-every _ t (le-refl _))))
-
-pub empty-degree : (n : ℕ) → degree (emptyPattern n) ≡ 0
-unfolding degree
-empty-degree zero = refl
-empty-degree (suc n) = omega (arith, empty-degree n)
 
 pub power-degree : (n : ℕ) (s : Sum) (e : ℕ) → degreeOf (power n s e) ≤ e * degreeOf s
 unfolding power

@@ -11,29 +11,10 @@ use Rattle.algebra.specs.Pattern.{Pattern, same, order}
 use Rattle.algebra.specs.Sum.{Term, term, Sum, isZero, ahead, inOrder}
 use Rattle.algebra.specs.Collect.{place, insert, gather, keep, dropZeros, collect, occurs, countNew, spread}
 use Rattle.algebra.specs.Value.{total, onlyIf, coefficient}
-use Rattle.algebra.proofs.Order.{same-self, same-eq, order-self, order-eq, order-turn}
-use Rattle.algebra.proofs.Compare.{turn}
-use Rattle.algebra.proofs.Ordered.{before-is, ahead-trans, order-head, order-tail, gather-order}
-
--- ---- Tests.
-
-pub true-is : (b : Bool) → T b → b ≡ true
-true-is true h = refl
-true-is false h = absurd h
-
-pub false-is : (b : Bool) → (T b → ⊥) → b ≡ false
-false-is true h = absurd (h tt)
-false-is false h = refl
-
-or-idem : (a b : Bool) → a || (a || b) ≡ a || b
-or-idem true b = refl
-or-idem false b = refl
-
-or-swap : (a b c : Bool) → a || (b || c) ≡ b || (a || c)
-or-swap true true c = refl
-or-swap true false c = refl
-or-swap false true c = refl
-or-swap false false c = refl
+use Rattle.algebra.proofs.Numbers.Test.{true-is, false-is, or-idem, or-swap}
+use Rattle.algebra.proofs.Patterns.Order.{same-self, same-eq, order-self, order-eq, order-turn}
+use Rattle.algebra.proofs.Numbers.Compare.{turn}
+use Rattle.algebra.proofs.Sums.Ordered.{before-is, ahead-trans, order-head, order-tail, gather-order}
 
 -- patterns that stand apart are not the same
 pub apart : (p q : Pattern) (o : Ordering) → order p q ≡ o → (o ≡ Ordering·eq → ⊥) → same p q ≡ false

@@ -8,8 +8,9 @@ use lib.Dec.{T, eqb, eqb→eq, eqb-refl}
 use lib.ListN.{length}
 use Rattle.algebra.specs.Pattern.{Pattern, times, degree, same, thenBy, byPowers, order}
 use Rattle.algebra.specs.Sum.{isBefore}
-use Rattle.algebra.proofs.Test.{and, and-l, and-r}
-use Rattle.algebra.proofs.Compare.{Says, compare-says, compare-is, compare-eq, turn, compare-turn, compare-add}
+use Rattle.algebra.proofs.Numbers.Test.{and, and-l, and-r}
+use Rattle.algebra.proofs.Patterns.Laws.{degree-times}
+use Rattle.algebra.proofs.Numbers.Compare.{Says, compare-says, compare-is, compare-eq, turn, compare-turn, compare-add}
 
 -- ---- The test that two patterns are the same.
 
@@ -122,12 +123,6 @@ unfolding order
 order-trans p q r h k = then-trans (degree p) (degree q) (degree r) (byPowers p q) (byPowers q r) (byPowers p r) (powers-trans p q r) h k
 
 -- ---- A pattern multiplied on both sides changes nothing.
-
-pub degree-times : (p q : Pattern) → degree (times p q) ≡ degree p + degree q
-unfolding degree times
-degree-times [] q = omega arith
-degree-times (e ∷ p) [] = omega arith
-degree-times (e ∷ p) (f ∷ q) = omega (arith, degree-times p q)
 
 powers-times : (u p q : Pattern) → length p ≡ length q → length u ≡ length p → byPowers (times u p) (times u q) ≡ byPowers p q
 unfolding byPowers times

@@ -13,13 +13,14 @@ use Rattle.algebra.specs.Collect.{collect, spread}
 use Rattle.algebra.specs.Arithmetic.{unit, row, _⊗_, power, powerSpread}
 use Rattle.algebra.specs.Value.{total, patternValue, termValue, value}
 use Rattle.algebra.specs.Substitute.{rows, pairFactor, pairRows, substitute, pairDegree, pairWeight, pairSpread, Put, kept, put, others, putFactor, putAll, replacedBy, onlyPut}
-use Rattle.algebra.proofs.Whole.{*ℤ-assoc, one-*ℤ, *ℤ-oner, *ℤ-left-comm}
-use Rattle.algebra.proofs.Every.{Every, every-map, append-every, collect-every, row-every, Long, UpTo, degree-every, every-degree}
-use Rattle.algebra.proofs.Ordered.{Parts, parts, collect-ordered}
-use Rattle.algebra.proofs.Occurs.{collect-length}
-use Rattle.algebra.proofs.Values.{collect-value, append-value, cons-value, unit-value, row-value, product-value, power-value}
-use Rattle.algebra.proofs.Ring.{product-comm, unit-product}
-use Rattle.algebra.proofs.Results.{times-length, unit-ordered, product-ordered, power-ordered, times-degree, power-degree, collect-weight, append-weight, row-weight, power-weight}
+use Rattle.algebra.proofs.Numbers.Whole.{*ℤ-assoc, one-*ℤ, *ℤ-oner, *ℤ-left-comm}
+use Rattle.algebra.proofs.Patterns.Laws.{times-length, times-degree}
+use Rattle.algebra.proofs.Sums.Every.{Every, every-map, append-every, collect-every, row-every, Long, UpTo, degree-every, every-degree}
+use Rattle.algebra.proofs.Sums.Ordered.{Parts, parts, collect-ordered}
+use Rattle.algebra.proofs.Sums.Occurs.{collect-length}
+use Rattle.algebra.proofs.Sums.Values.{collect-value, append-value, cons-value, unit-value, row-value, product-value, power-value}
+use Rattle.algebra.proofs.Sums.Ring.{product-comm, unit-product}
+use Rattle.algebra.proofs.Sums.Results.{unit-ordered, product-ordered, power-ordered, power-degree, collect-weight, append-weight, row-weight, power-weight}
 
 -- ---- Values: it is enough to look at one pattern.
 
@@ -152,12 +153,13 @@ substitute-degree n v S s =
 pub pair-weights : (n v : ℕ) (S s : Sum) → weight (pairRows n v S s) ≤ pairWeight v S s
 unfolding pairRows rows pairWeight weight
 pair-weights n v S [] = omega arith
-pair-weights n v S (t ∷ s) = omega
-    (arith,
-    append-weight (row (term (t .coefficient) (without v (t .pattern))) (pairFactor n v S (t .pattern))) (rows (without v) (pairFactor n v S) s),
-    row-weight (term (t .coefficient) (without v (t .pattern))) (pairFactor n v S (t .pattern)),
-    mul-le-mul-left (natAbs (t .coefficient)) (power-weight n S (exponent v (t .pattern))),
-    pair-weights n v S s)
+pair-weights n v S (t ∷ s) = omega (
+  arith,
+  append-weight (row (term (t .coefficient) (without v (t .pattern))) (pairFactor n v S (t .pattern))) (rows (without v) (pairFactor n v S) s),
+  row-weight (term (t .coefficient) (without v (t .pattern))) (pairFactor n v S (t .pattern)),
+  mul-le-mul-left (natAbs (t .coefficient)) (power-weight n S (exponent v (t .pattern))),
+  pair-weights n v S s,
+)
 
 pub substitute-weight : (n v : ℕ) (S s : Sum) → weight (substitute n v S s) ≤ pairWeight v S s
 unfolding substitute

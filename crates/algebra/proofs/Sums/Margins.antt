@@ -10,8 +10,8 @@ use Rattle.algebra.specs.Pattern.{Pattern}
 use Rattle.algebra.specs.Sum.{Term, Sum}
 use Rattle.algebra.specs.Value.{patternValue, total, value}
 use Rattle.algebra.specs.Margin.{patternSize, size, unsigned, raisedBy, margin, Within, none, more}
-use Rattle.algebra.proofs.Absolute.{abs-add, abs-mul}
-use Rattle.algebra.proofs.Solve.{v, _:+_, _:*_, _:-_, solve, agree}
+use Rattle.algebra.proofs.Numbers.Absolute.{abs-add, abs-mul}
+use Rattle.algebra.proofs.Numbers.Solve.{v, _:+_, _:*_, _:-_, solve, agree}
 
 -- A is near B: |B| is at most a, and |A − B| at most b − a. Sums, products and powers of near numbers are near.
 record Near (A B : ℤ) (a b : ℕ) : Type 0 where

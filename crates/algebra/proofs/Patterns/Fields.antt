@@ -9,8 +9,8 @@ use lib.Pow.{pow-add}
 use lib.ListN.{length, length-set}
 use Rattle.algebra.specs.Pattern.{Pattern, emptyPattern, times, degree, exponent, lowered, thenBy, byPowers, order}
 use Rattle.algebra.specs.Word.{wordOf, fieldsOf}
-use Rattle.algebra.proofs.Compare.{Says, compare-says, compare-is, compare-add}
-use Rattle.algebra.proofs.Order.{degree-times}
+use Rattle.algebra.proofs.Numbers.Compare.{Says, compare-says, compare-is, compare-add}
+use Rattle.algebra.proofs.Patterns.Laws.{times-length, degree-times}
 
 -- ---- A word and its fields.
 
@@ -86,18 +86,7 @@ unfolding wordOf
 word-zero B zero = refl
 word-zero B (suc n) = omega (arith, word-zero B n)
 
-pub degree-zero : (n : ℕ) → degree (emptyPattern n) ≡ 0
-unfolding degree
-degree-zero zero = refl
-degree-zero (suc n) = omega (arith, degree-zero n)
-
 -- ---- The product of two patterns: the words add up.
-
-pub length-times : (p q : Pattern) → length p ≡ length q → length (times p q) ≡ length p
-unfolding times
-length-times [] q h = sym h
-length-times (e ∷ p) [] h = refl
-length-times (e ∷ p) (f ∷ q) h = ap suc (length-times p q (omega arith))
 
 pub word-times : (B : ℕ) (p q : Pattern) → length p ≡ length q → wordOf B (times p q) ≡ wordOf B p + wordOf B q
 unfolding wordOf times
@@ -106,14 +95,14 @@ word-times B [] (f ∷ q) h = absurd (omega arith)
 word-times B (e ∷ p) [] h = absurd (omega arith)
 word-times B (e ∷ p) (f ∷ q) h =
     let k : length p ≡ length q = omega arith in
-    let both : (e + f) * B ^ length (times p q) ≡ e * B ^ length p + f * B ^ length p = ap (λ (i : ℕ). (e + f) * B ^ i) (length-times p q k) ∙ add-mul e f (B ^ length p) in
+    let both : (e + f) * B ^ length (times p q) ≡ e * B ^ length p + f * B ^ length p = ap (λ (i : ℕ). (e + f) * B ^ i) (times-length (length p) p q refl (sym k)) ∙ add-mul e f (B ^ length p) in
     omega (arith, word-times B p q k, both, ap (λ (i : ℕ). f * B ^ i) k)
 
 -- the fields of two words added are the exponents added, while no field runs over
 pub fields-times : (B : ℕ) (p q : Pattern) → length p ≡ length q → degree p + degree q < B
     → fieldsOf B (length p) (wordOf B p + wordOf B q) ≡ times p q
 fields-times B p q h k =
-    rw (word-times B p q h, length-times p q h) at (fields-word {p = times p q} (omega arith) (below-degree B (times p q) (omega (arith, degree-times p q))))
+    rw (word-times B p q h, times-length (length p) p q refl (sym h)) at (fields-word {p = times p q} (omega arith) (below-degree B (times p q) (omega (arith, degree-times p q))))
 
 -- ---- The degree. B leaves 1 when divided by B - 1, and so does each of its powers: the remainder adds the exponents up.
 
@@ -186,9 +175,3 @@ word-lowered B (suc e ∷ p) zero h k =
 word-lowered B (e ∷ p) (suc v) h k =
     let i : suc (length p) - suc (suc v) ≡ length p - suc v = omega arith in
     rw (i, length-set p v (exponent v p - 1)) (omega (arith, word-lowered B p v (omega arith) k))
-
-pub degree-lowered : (p : Pattern) (v : ℕ) → degree (lowered v p) ≤ degree p
-unfolding degree
-degree-lowered [] v = omega arith
-degree-lowered (e ∷ p) zero = omega arith
-degree-lowered (e ∷ p) (suc v) = omega (arith, degree-lowered p v)

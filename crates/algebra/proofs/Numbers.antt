@@ -1,0 +1,6 @@
+-- Tests, comparisons and whole numbers.
+pub mod Test
+pub mod Compare
+pub mod Whole
+pub mod Absolute
+pub mod Solve

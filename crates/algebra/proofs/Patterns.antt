@@ -1,0 +1,5 @@
+-- Patterns, the term order, and patterns held in words.
+pub mod Laws
+pub mod Order
+pub mod Fields
+pub mod Word
