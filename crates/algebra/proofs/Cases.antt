@@ -1,13 +1,13 @@
 -- Cases of document 01, computed by the definitions, in eight variables.
 use mathlib.Core.Path.{_≡_, refl}
-use mathlib.Core.Bool.{Bool, true, false}
-use mathlib.Core.List.{List, [], _∷_, _++_, map}
-use Prim.Native.Nat.{ℕ, zero, suc, _^_}
-use lib.IntN.{ℤ, pos, negsuc, one, pow}
-use lib.ListN.{length, replicate}
+use mathlib.Core.Bool.{true}
+use mathlib.Core.List.{[], _∷_}
+use Prim.Native.Nat.{ℕ}
+use lib.IntN.{pos, negsuc, one, pow}
+use lib.ListN.{length}
 use Rattle.algebra.specs.Limits.{variables, largestWeight}
-use Rattle.algebra.specs.Pattern.{Pattern, times, degree, same, thenBy, byPowers, order}
-use Rattle.algebra.specs.Sum.{Term, term, Sum, ahead, inOrder, noZero, inVariables, ordered, degreeOf, weight}
+use Rattle.algebra.specs.Pattern.{times, degree, same, thenBy, byPowers, order}
+use Rattle.algebra.specs.Sum.{term, Sum, ahead, inOrder, noZero, inVariables, ordered, degreeOf, weight}
 use Rattle.algebra.specs.Collect.{place, insert, gather, keep, dropZeros, collect, occurs, countNew, spread}
 use Rattle.algebra.specs.Arithmetic.{constant, variable, row, pairs, _⊕_, sumSpread, _⊗_, productSpread, power, powerSpread}
 use Rattle.algebra.specs.Slope.{slope}

@@ -3,7 +3,7 @@ use mathlib.Core.List.{List, [], _∷_, _++_}
 use Prim.Native.Nat.{ℕ, zero, suc, max}
 use lib.IntN.{ℤ, pos, _*ℤ_}
 use lib.ListN.{set}
-use Rattle.algebra.specs.Pattern.{Pattern, emptyPattern, times}
+use Rattle.algebra.specs.Pattern.{emptyPattern, times}
 use Rattle.algebra.specs.Sum.{Term, term, Sum}
 use Rattle.algebra.specs.Collect.{collect, spread}
 

@@ -3,7 +3,7 @@ use mathlib.Core.List.{List, [], _∷_}
 use Prim.Native.Nat.{ℕ, _+_, _*_, _-_, _^_, _≤_}
 use lib.IntN.{ℤ, natAbs, _-ℤ_}
 use Rattle.algebra.specs.Pattern.{Pattern}
-use Rattle.algebra.specs.Sum.{Term, Sum}
+use Rattle.algebra.specs.Sum.{Sum}
 
 -- the value of a sum with all signs dropped, at numbers without signs
 unfoldable pub patternSize : Pattern → List ℕ → ℕ

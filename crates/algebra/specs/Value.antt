@@ -4,7 +4,7 @@ use mathlib.Core.List.{List, [], _∷_}
 use Prim.Native.Nat.{ℕ, zero, suc}
 use lib.IntN.{ℤ, pos, _+ℤ_, _*ℤ_, pow}
 use Rattle.algebra.specs.Pattern.{Pattern, same}
-use Rattle.algebra.specs.Sum.{Term, Sum}
+use Rattle.algebra.specs.Sum.{Term}
 
 -- f added up over the terms
 unfoldable pub total : (Term → ℤ) → List Term → ℤ

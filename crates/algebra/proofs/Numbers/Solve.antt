@@ -1,14 +1,14 @@
 -- Identities of whole numbers by computation: both sides are read as formulas in unknowns, and their ordered sums are compared.
 -- Under `unfolding agree`, `solve e f (a ∷ b ∷ []) tt` proves what e and f say of a and b; `v 0` is the first of the list.
 use mathlib.Core.Path.{_≡_, refl, sym, _∙_, ap, ap₂}
-use mathlib.Core.List.{List, [], _∷_, _++_}
+use mathlib.Core.List.{List, [], _∷_}
 use mathlib.Core.Bool.{Bool, true, false, _&&_}
 use Prim.Native.Nat.{ℕ, zero, suc}
 use lib.Dec.{T, eqb, eqb→eq}
 use lib.ListN.{getD}
-use lib.IntN.{ℤ, pos, negsuc, negℤ, _+ℤ_, _-ℤ_, _*ℤ_, +ℤ-idr, one, pow}
+use lib.IntN.{ℤ, pos, negsuc, negℤ, _+ℤ_, _*ℤ_, +ℤ-idr, one, pow}
 use Rattle.algebra.specs.Pattern.{Pattern, times, degree, same, thenBy, byPowers, order}
-use Rattle.algebra.specs.Sum.{Term, term, Sum}
+use Rattle.algebra.specs.Sum.{term, Sum}
 use Rattle.algebra.specs.Collect.{place, insert, gather, keep, dropZeros, collect}
 use Rattle.algebra.specs.Arithmetic.{row, pairs, _⊕_, _⊗_}
 use Rattle.algebra.specs.Value.{total, patternValue, value}

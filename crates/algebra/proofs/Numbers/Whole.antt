@@ -117,6 +117,12 @@ pub +ℤ-left-comm : (x y z : ℤ) → x +ℤ (y +ℤ z) ≡ y +ℤ (x +ℤ z)
 pub *ℤ-left-comm : (x y z : ℤ) → x *ℤ (y *ℤ z) ≡ y *ℤ (x *ℤ z)
 *ℤ-left-comm x y z = sym (*ℤ-assoc x y z) ∙ ap (λ w. w *ℤ z) (*ℤ-comm x y) ∙ *ℤ-assoc y x z
 
+pub +ℤ-mix : (a b c d : ℤ) → (a +ℤ b) +ℤ (c +ℤ d) ≡ (a +ℤ c) +ℤ (b +ℤ d)
++ℤ-mix a b c d = simp (+ℤ-assoc, +ℤ-left-comm)
+
+pub *ℤ-mix : (a b c d : ℤ) → (a *ℤ b) *ℤ (c *ℤ d) ≡ (a *ℤ c) *ℤ (b *ℤ d)
+*ℤ-mix a b c d = simp (*ℤ-assoc, *ℤ-left-comm)
+
 pub +ℤ-cancel : (a b c : ℤ) → a +ℤ b ≡ a +ℤ c → b ≡ c
 +ℤ-cancel a b c e = sym (back b) ∙ ap (λ z. negℤ a +ℤ z) e ∙ back c
   where

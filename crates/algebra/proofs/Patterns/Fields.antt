@@ -1,7 +1,7 @@
 -- The laws of words, each once for every field base B and every number of variables.
 use mathlib.Core.Path.{_≡_, refl, sym, _∙_, ap, ap₂, subst}
 use mathlib.Core.List.{[], _∷_}
-use Prim.Native.Nat.{ℕ, zero, suc, _+_, _*_, _^_, _/_, _%_, _-_, _≤_, _<_, compare, Ordering, Ordering·lt, Ordering·eq, Ordering·gt}
+use Prim.Native.Nat.{ℕ, zero, suc, _+_, _*_, _^_, _/_, _%_, _-_, _<_, compare, Ordering, Ordering·lt, Ordering·eq, Ordering·gt}
 use native.Mathlib.Omega.{arith}
 use native.Mathlib.Nat.{pow-zero, pow-suc, pow-succ', mul-zero, mul-suc, mod-eq-of-lt, mod-lt, mod-one, add-mul, mul-assoc, mul-add-div-right, mul-add-mod-self-right, one-le-pow}
 use lib.Arith.{digits-lt, digits-div, digits-mod, mod-mul}

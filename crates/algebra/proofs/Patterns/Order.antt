@@ -1,13 +1,11 @@
 -- The term order is a strict total order, and is kept by multiplication with a pattern.
-use mathlib.Core.Path.{_≡_, refl, sym, _∙_, ap, ap₂}
-use mathlib.Core.Bool.{Bool, true, false, _&&_}
-use mathlib.Core.List.{List, [], _∷_}
-use Prim.Native.Nat.{ℕ, _+_, _<_, compare, Ordering, Ordering·lt, Ordering·eq, Ordering·gt}
+use mathlib.Core.Path.{_≡_, refl, sym, _∙_, ap₂}
+use mathlib.Core.List.{[], _∷_}
+use Prim.Native.Nat.{ℕ, _<_, compare, Ordering, Ordering·lt, Ordering·eq, Ordering·gt}
 use native.Mathlib.Omega.{arith}
 use lib.Dec.{T, eqb, eqb→eq, eqb-refl}
 use lib.ListN.{length}
 use Rattle.algebra.specs.Pattern.{Pattern, times, degree, same, thenBy, byPowers, order}
-use Rattle.algebra.specs.Sum.{isBefore}
 use Rattle.algebra.proofs.Numbers.Test.{and, and-l, and-r}
 use Rattle.algebra.proofs.Patterns.Laws.{degree-times}
 use Rattle.algebra.proofs.Numbers.Compare.{Says, compare-says, compare-is, compare-eq, turn, compare-turn, compare-add}

@@ -1,24 +1,24 @@
 -- A sum in order is known by its coefficients; so two lists of terms that have the same totals have the same ordered sum.
 use mathlib.Core.Path.{_≡_, refl, sym, _∙_, ap, ap₂}
 use mathlib.Core.Bool.{Bool, true, false, not, _||_}
-use mathlib.Core.List.{List, [], _∷_, _++_}
-use Prim.Native.Nat.{ℕ, zero, suc, Ordering, Ordering·lt, Ordering·eq, Ordering·gt}
+use mathlib.Core.List.{List, [], _∷_}
+use Prim.Native.Nat.{ℕ, Ordering, Ordering·lt, Ordering·eq, Ordering·gt}
 use native.Mathlib.Omega.{arith}
 use native.Mathlib.Decide.{ℕ-discrete}
 use lib.Dec.{T}
-use lib.IntN.{ℤ, pos, negsuc, _+ℤ_, +ℤ-idl, +ℤ-idr}
+use lib.IntN.{ℤ, pos, _+ℤ_, +ℤ-idl, +ℤ-idr}
 use lib.ListN.{length}
 use Rattle.algebra.specs.Pattern.{Pattern, same, order}
 use Rattle.algebra.specs.Sum.{Term, term, Sum, isZero, ahead, inOrder, noZero, ordered}
-use Rattle.algebra.specs.Collect.{collect, occurs}
+use Rattle.algebra.specs.Collect.{gather, collect, occurs}
 use Rattle.algebra.specs.Value.{total, onlyIf, coefficientIn, coefficient}
 use Rattle.algebra.proofs.Numbers.Whole.{+ℤ-cancel}
 use Rattle.algebra.proofs.Numbers.Test.{true-is, false-is}
 use Rattle.algebra.proofs.Patterns.Order.{same-self, same-eq, order-eq}
-use Rattle.algebra.proofs.Sums.Total.{Additive, collect-total, zero-is}
+use Rattle.algebra.proofs.Sums.Total.{Additive, gather-total, collect-total}
 use Rattle.algebra.proofs.Sums.Every.{Every, Long}
-use Rattle.algebra.proofs.Sums.Ordered.{Parts, parts, is-before, order-back, order-head, order-tail, full-head, full-tail, collect-order, collect-full}
-use Rattle.algebra.proofs.Sums.Occurs.{occurs-cons, occurs-first, ahead-absent, absent-coefficient}
+use Rattle.algebra.proofs.Sums.Ordered.{Parts, parts, is-before, order-back, order-head, order-tail, full-head, full-tail, gather-order, collect-order, collect-full}
+use Rattle.algebra.proofs.Sums.Occurs.{occurs-cons, occurs-first, ahead-absent, gather-occurs, absent-coefficient}
 
 true-not-false : true ≡ false → ⊥
 true-not-false e = let z : _≡_ {A = ℕ} 0 1 = cc in omega arith
@@ -94,6 +94,14 @@ alike-equal (t ∷ s) (u ∷ r) h k A = go (order (t .pattern) (u .pattern)) ref
         let c : t .coefficient ≡ u .coefficient = sym (first-coefficient t s h) ∙ A .numbers (t .pattern) ∙ ap (coefficient (u ∷ r)) p ∙ first-coefficient u r k in
         let w : t ≡ u = λ i. term (c i) (p i) in
         ap₂ _∷_ w (f (rest-alike t u s r h k w A))
+
+-- so gathering does not depend on the order of the terms
+pub gather-equal : (l m : List Term) → ((r : Pattern) → occurs r l ≡ occurs r m) → ((r : Pattern) → coefficient l r ≡ coefficient m r) → gather l ≡ gather m
+gather-equal l m p c = alike-equal (gather l) (gather m) (gather-order l) (gather-order m)
+    (record { patterns = λ r. gather-occurs r l ∙ p r ∙ sym (gather-occurs r m); numbers = λ r. numbers l r ∙ c r ∙ sym (numbers m r) })
+  where
+    numbers : (k : List Term) (r : Pattern) → coefficient (gather k) r ≡ coefficient k r
+    numbers k r = unfold coefficient in gather-total (coefficientIn r) (coefficient-additive r) k
 
 -- ---- Without zeros the patterns are those with a coefficient other than 0.
 

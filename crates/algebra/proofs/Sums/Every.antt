@@ -1,13 +1,13 @@
 -- What holds of every pattern of a list of terms: collecting keeps it, and rows and pairs multiply it.
-use mathlib.Core.Path.{_≡_, refl, ap}
+use mathlib.Core.Path.{_≡_}
 use mathlib.Core.Bool.{Bool, true, false}
-use mathlib.Core.List.{List, [], _∷_, _++_, map}
-use Prim.Native.Nat.{ℕ, max, _≤_, zero-le, Ordering, Ordering·lt, Ordering·eq, Ordering·gt}
+use mathlib.Core.List.{List, [], _∷_, _++_}
+use Prim.Native.Nat.{ℕ, _≤_, zero-le, Ordering, Ordering·lt, Ordering·eq, Ordering·gt}
 use native.Mathlib.Nat.{le-trans, le-max-left, le-max-right, max-le}
 use lib.Dec.{T, eqb, eqb→eq, eqb-refl}
 use lib.ListN.{length}
 use Rattle.algebra.specs.Pattern.{Pattern, times, degree, order}
-use Rattle.algebra.specs.Sum.{Term, term, Sum, isZero, inVariables, degreeOf}
+use Rattle.algebra.specs.Sum.{Term, Sum, isZero, inVariables, degreeOf}
 use Rattle.algebra.specs.Collect.{place, insert, gather, keep, dropZeros, collect}
 use Rattle.algebra.specs.Arithmetic.{row, pairs}
 use Rattle.algebra.proofs.Numbers.Test.{and, and-l, and-r}

@@ -1,13 +1,13 @@
 -- The margin law: wherever each true number is within its tolerance of its reading, the values differ by at most the margin.
-use mathlib.Core.Path.{_≡_, refl, sym, _∙_, ap, ap₂}
+use mathlib.Core.Path.{_≡_, ap}
 use mathlib.Core.List.{List, [], _∷_}
-use Prim.Native.Nat.{ℕ, zero, suc, _+_, _*_, _-_, _^_, _≤_}
+use Prim.Native.Nat.{ℕ, zero, suc, _+_, _*_, _^_, _≤_}
 use native.Mathlib.Omega.{arith}
 use native.Mathlib.Nat.{le-refl, mul-le-mul-left, mul-le-mul-right, mul-le-mul, pow-zero, pow-suc}
 use lib.IntN.{ℤ, pos, natAbs, _+ℤ_, _-ℤ_, _*ℤ_, +ℤ-invr, pow, one}
 use lib.ListN.{length}
 use Rattle.algebra.specs.Pattern.{Pattern}
-use Rattle.algebra.specs.Sum.{Term, Sum}
+use Rattle.algebra.specs.Sum.{Sum}
 use Rattle.algebra.specs.Value.{patternValue, total, value}
 use Rattle.algebra.specs.Margin.{patternSize, size, unsigned, raisedBy, margin, Within, none, more}
 use Rattle.algebra.proofs.Numbers.Absolute.{abs-add, abs-mul}

@@ -1,19 +1,18 @@
 -- Which patterns stand in a list, and how many different ones: collecting keeps the patterns, and the spread is their number.
 use mathlib.Core.Path.{_≡_, refl, sym, _∙_, ap, ap₂}
-use mathlib.Core.Bool.{Bool, true, false, not, _||_}
-use mathlib.Core.List.{List, [], _∷_, _++_}
-use Prim.Native.Nat.{ℕ, zero, suc, _≤_, Ordering, Ordering·lt, Ordering·eq, Ordering·gt}
+use mathlib.Core.Bool.{Bool, true, false, _||_}
+use mathlib.Core.List.{List, [], _∷_}
+use Prim.Native.Nat.{ℕ, suc, _≤_, Ordering, Ordering·lt, Ordering·eq, Ordering·gt}
 use native.Mathlib.Omega.{arith}
 use lib.Dec.{T}
 use lib.IntN.{ℤ, pos, _+ℤ_}
 use lib.ListN.{length}
 use Rattle.algebra.specs.Pattern.{Pattern, same, order}
-use Rattle.algebra.specs.Sum.{Term, term, Sum, isZero, ahead, inOrder}
+use Rattle.algebra.specs.Sum.{Term, Sum, isZero, ahead, inOrder}
 use Rattle.algebra.specs.Collect.{place, insert, gather, keep, dropZeros, collect, occurs, countNew, spread}
 use Rattle.algebra.specs.Value.{total, onlyIf, coefficient}
 use Rattle.algebra.proofs.Numbers.Test.{true-is, false-is, or-idem, or-swap}
-use Rattle.algebra.proofs.Patterns.Order.{same-self, same-eq, order-self, order-eq, order-turn}
-use Rattle.algebra.proofs.Numbers.Compare.{turn}
+use Rattle.algebra.proofs.Patterns.Order.{same-self, same-eq, order-self, order-eq}
 use Rattle.algebra.proofs.Sums.Ordered.{before-is, ahead-trans, order-head, order-tail, gather-order}
 
 -- patterns that stand apart are not the same

@@ -1,16 +1,17 @@
 -- Collecting gives an ordered sum, and leaves one that is ordered as it is.
-use mathlib.Core.Path.{_≡_, refl, sym, _∙_, ap, ap₂}
+use mathlib.Core.Path.{_≡_, refl, sym, _∙_, ap}
 use mathlib.Core.Bool.{Bool, true, false, not, _&&_}
 use mathlib.Core.List.{List, [], _∷_}
-use Prim.Native.Nat.{ℕ, zero, suc, Ordering, Ordering·lt, Ordering·eq, Ordering·gt}
+use Prim.Native.Nat.{ℕ, Ordering, Ordering·lt, Ordering·eq, Ordering·gt}
 use lib.Dec.{T}
-use lib.IntN.{ℤ, pos, negsuc}
-use Rattle.algebra.specs.Pattern.{Pattern, order}
+use lib.ListN.{length}
+use Rattle.algebra.specs.Pattern.{Pattern, times, order}
 use Rattle.algebra.specs.Sum.{Term, term, Sum, isZero, isBefore, ahead, inOrder, noZero, inVariables, ordered}
+use Rattle.algebra.specs.Arithmetic.{timesTerm, row}
 use Rattle.algebra.specs.Collect.{place, insert, gather, keep, dropZeros, collect}
 use Rattle.algebra.proofs.Numbers.Test.{and, and-l, and-r}
 use Rattle.algebra.proofs.Numbers.Compare.{turn}
-use Rattle.algebra.proofs.Patterns.Order.{order-eq, order-turn, order-trans}
+use Rattle.algebra.proofs.Patterns.Order.{order-turn, order-trans, order-times}
 use Rattle.algebra.proofs.Sums.Every.{Every, Long, variables-every, every-variables, collect-every}
 
 -- ---- The test taken apart and put together.
@@ -39,6 +40,10 @@ parts n s h = record {
   full = and-r (inOrder s) (noZero s) (and-l (inOrder s && noZero s) (inVariables n s) h);
   long = variables-every n s (and-r (inOrder s && noZero s) (inVariables n s) h);
 }
+
+pub ordered-variables : (n : ℕ) (s : Sum) → T (ordered n s) → T (inVariables n s)
+unfolding ordered
+ordered-variables n s h = and-r (inOrder s && noZero s) (inVariables n s) h
 
 pub whole : (n : ℕ) (s : Sum) → Parts n s → T (ordered n s)
 unfolding ordered
@@ -99,6 +104,17 @@ pub gather-order : (l : List Term) → T (inOrder (gather l))
 unfolding gather
 gather-order [] = unfold inOrder in tt
 gather-order (t ∷ l) = insert-order t (gather l) (gather-order l)
+
+-- a term times a sum in order is in order: the code merges such rows
+row-ahead : (n : ℕ) (u : Term) (p : Pattern) (s : Sum) → length (u .pattern) ≡ n → length p ≡ n → Every (Long n) s → T (ahead p s) → T (ahead (times (u .pattern) p) (row u s))
+unfolding row ahead
+row-ahead n u p [] h k l a = tt
+row-ahead n u p (t ∷ s) h k l a = is-before _ (order-times (u .pattern) p (t .pattern) (k ∙ sym (l .0)) (h ∙ sym k) ∙ before-is (order p (t .pattern)) a)
+
+pub row-order : (n : ℕ) (u : Term) (s : Sum) → length (u .pattern) ≡ n → Every (Long n) s → T (inOrder s) → T (inOrder (row u s))
+unfolding row
+row-order n u [] h l k = k
+row-order n u (t ∷ s) h l k = order-cons (timesTerm u t) (row u s) (row-ahead n u (t .pattern) s h (l .0) (l .1) (order-head t s k)) (row-order n u s h (l .1) (order-tail t s k))
 
 -- ---- Zeros dropped.
 

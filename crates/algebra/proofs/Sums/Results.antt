@@ -1,22 +1,21 @@
 -- What a sum, a product and a power are like: ordered, with their degree, weight and number of terms bounded as document 01 counts them.
-use mathlib.Core.Path.{_≡_, refl, sym, _∙_, ap}
+use mathlib.Core.Path.{_≡_, _∙_}
 use mathlib.Core.Bool.{Bool, true, false}
 use mathlib.Core.List.{List, [], _∷_, _++_}
-use Prim.Native.Nat.{ℕ, zero, suc, _+_, _*_, _^_, max, _≤_, _<_, Ordering, Ordering·lt, Ordering·eq, Ordering·gt}
+use Prim.Native.Nat.{ℕ, zero, suc, _+_, _*_, _^_, max, _≤_, Ordering, Ordering·lt, Ordering·eq, Ordering·gt}
 use native.Mathlib.Omega.{arith}
 use native.Mathlib.Nat.{le-refl, le-trans, le-max-left, le-max-right, mul-le-mul-right, one-mul, pow-zero, pow-suc}
 use lib.Dec.{T}
-use lib.IntN.{ℤ, pos, negsuc, natAbs, _+ℤ_}
-use lib.ListN.{length, set, replicate, length-set, length-replicate}
-use Rattle.algebra.specs.Pattern.{Pattern, emptyPattern, times, degree, order}
+use lib.IntN.{ℤ, pos, natAbs}
+use lib.ListN.{length, set, length-set, length-replicate}
+use Rattle.algebra.specs.Pattern.{Pattern, emptyPattern, order}
 use Rattle.algebra.specs.Sum.{Term, term, Sum, isZero, ahead, inOrder, noZero, ordered, degreeOf, weight}
-use Rattle.algebra.specs.Collect.{place, insert, gather, keep, dropZeros, collect, spread}
+use Rattle.algebra.specs.Collect.{place, insert, gather, keep, dropZeros, collect}
 use Rattle.algebra.specs.Arithmetic.{constant, variable, unit, row, pairs, _⊕_, sumSpread, _⊗_, productSpread, power, powerSpread}
 use Rattle.algebra.proofs.Numbers.Absolute.{abs-add, abs-mul}
 use Rattle.algebra.proofs.Patterns.Laws.{times-length, times-degree, empty-degree}
-use Rattle.algebra.proofs.Sums.Total.{zero-is}
-use Rattle.algebra.proofs.Sums.Every.{Every, every-map, append-every, collect-every, pairs-every, Long, UpTo, degree-every, every-degree}
-use Rattle.algebra.proofs.Sums.Ordered.{Parts, parts, whole, collect-ordered}
+use Rattle.algebra.proofs.Sums.Every.{append-every, collect-every, pairs-every, Long, UpTo, degree-every, every-degree}
+use Rattle.algebra.proofs.Sums.Ordered.{parts, whole, collect-ordered}
 use Rattle.algebra.proofs.Sums.Occurs.{collect-length}
 
 -- ---- Ordered.

@@ -1,19 +1,19 @@
 -- Sums are a commutative ring: two ways to write the same terms have the same ordered sum.
 use mathlib.Core.Path.{_≡_, refl, sym, _∙_, ap, ap₂}
-use mathlib.Core.List.{List, [], _∷_, _++_}
-use Prim.Native.Nat.{ℕ, zero, suc, _+_}
+use mathlib.Core.List.{[], _∷_, _++_}
+use Prim.Native.Nat.{ℕ, zero, suc}
 use lib.Dec.{T}
 use lib.IntN.{ℤ, pos, _+ℤ_, _*ℤ_, +ℤ-comm, +ℤ-assoc, +ℤ-idr, *ℤ-comm, zero-*ℤ, *ℤ-zero}
-use Rattle.algebra.specs.Pattern.{Pattern, emptyPattern, times}
+use Rattle.algebra.specs.Pattern.{emptyPattern, times}
 use Rattle.algebra.specs.Sum.{Term, term, Sum, ordered}
 use Rattle.algebra.specs.Collect.{gather, dropZeros, collect}
-use Rattle.algebra.specs.Arithmetic.{unit, timesTerm, row, pairs, _⊕_, _⊗_, power}
+use Rattle.algebra.specs.Arithmetic.{unit, timesTerm, pairs, _⊕_, _⊗_, power}
 use Rattle.algebra.specs.Value.{total}
 use Rattle.algebra.proofs.Numbers.Whole.{*ℤ-assoc, *ℤ-+ℤ, +ℤ-*ℤ, one-*ℤ}
 use Rattle.algebra.proofs.Patterns.Laws.{times-comm, times-assoc, empty-times}
 use Rattle.algebra.proofs.Sums.Total.{Additive, total-ext, total-append, total-plus, total-none, total-swap, pairs-total, collect-total}
 use Rattle.algebra.proofs.Sums.Every.{Every, Long}
-use Rattle.algebra.proofs.Sums.Ordered.{Parts, parts, collect-fixed}
+use Rattle.algebra.proofs.Sums.Ordered.{parts, collect-fixed}
 use Rattle.algebra.proofs.Sums.Equal.{collect-equal}
 
 -- ---- A product's total, over the pairs; it is additive in each operand.

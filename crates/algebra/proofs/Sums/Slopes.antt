@@ -1,27 +1,27 @@
 -- The slope is that of algebra: its coefficients are those one power up, it is linear, and it has the product rule.
 use mathlib.Core.Path.{_≡_, refl, sym, _∙_, ap, ap₂}
 use mathlib.Core.Bool.{Bool, true, false}
-use mathlib.Core.List.{List, [], _∷_, _++_, map}
-use Prim.Native.Nat.{ℕ, zero, suc, _+_, _*_, _-_, _≤_, _<_}
+use mathlib.Core.List.{[], _∷_, _++_, map}
+use Prim.Native.Nat.{ℕ, zero, suc, _*_, _-_, _≤_, _<_}
 use native.Mathlib.Omega.{arith}
-use native.Mathlib.Nat.{le-refl, le-trans, mul-le-mul-left, add-zero}
+use native.Mathlib.Nat.{le-refl, le-trans, mul-le-mul-left}
 use lib.Dec.{T}
-use lib.IntN.{ℤ, pos, natAbs, _+ℤ_, _*ℤ_, +ℤ-idl, *ℤ-comm, *ℤ-zero, zero-*ℤ}
-use lib.ListN.{length, getD, set, replicate, length-set, length-map}
-use Rattle.algebra.specs.Pattern.{Pattern, emptyPattern, times, degree, exponent, raised, lowered, same}
+use lib.IntN.{ℤ, pos, natAbs, _+ℤ_, _*ℤ_, *ℤ-comm, *ℤ-zero, zero-*ℤ}
+use lib.ListN.{length, length-set, length-map}
+use Rattle.algebra.specs.Pattern.{Pattern, emptyPattern, times, exponent, raised, lowered, same}
 use Rattle.algebra.specs.Sum.{Term, term, Sum, ordered, degreeOf, weight}
 use Rattle.algebra.specs.Collect.{gather, dropZeros, collect}
-use Rattle.algebra.specs.Arithmetic.{constant, timesTerm, pairs, _⊕_, _⊗_}
+use Rattle.algebra.specs.Arithmetic.{constant, timesTerm, _⊕_, _⊗_}
 use Rattle.algebra.specs.Slope.{slopeTerm, slope}
 use Rattle.algebra.specs.Value.{total, onlyIf, coefficientIn, coefficient}
-use Rattle.algebra.proofs.Numbers.Whole.{*ℤ-assoc, *ℤ-+ℤ, +ℤ-*ℤ, *ℤ-left-comm}
+use Rattle.algebra.proofs.Numbers.Whole.{*ℤ-assoc, *ℤ-+ℤ, +ℤ-*ℤ}
 use Rattle.algebra.proofs.Numbers.Absolute.{abs-mul}
 use Rattle.algebra.proofs.Patterns.Laws.{times-comm, set-degree, exponent-degree, raised-exponent, lowered-raised, raised-lowered, exponent-times, lowered-times, empty-exponent}
 use Rattle.algebra.proofs.Patterns.Order.{same-self, same-eq}
 use Rattle.algebra.proofs.Numbers.Test.{true-is, false-is}
-use Rattle.algebra.proofs.Sums.Total.{Additive, total-ext, total-map, total-append, total-plus, total-times, total-none, pairs-total, collect-total}
+use Rattle.algebra.proofs.Sums.Total.{Additive, total-ext, total-map, total-append, total-plus, total-times, collect-total}
 use Rattle.algebra.proofs.Sums.Every.{Every, Long, UpTo, degree-every, every-degree, collect-every}
-use Rattle.algebra.proofs.Sums.Ordered.{Parts, parts, collect-ordered}
+use Rattle.algebra.proofs.Sums.Ordered.{parts, collect-ordered}
 use Rattle.algebra.proofs.Sums.Occurs.{collect-length, spread-length}
 use Rattle.algebra.proofs.Sums.Equal.{coefficient-additive, collect-equal}
 use Rattle.algebra.proofs.Sums.Ring.{sum-total, product-total, left-additive, right-additive, sum-zero, zero-product}

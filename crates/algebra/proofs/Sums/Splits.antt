@@ -6,28 +6,27 @@ use Prim.Native.Nat.{ℕ, zero, suc, _+_, _≤_, _<_}
 use native.Mathlib.Omega.{arith}
 use native.Mathlib.Decide.{ℕ-discrete}
 use lib.Dec.{T, eqb, eqb→eq, eqb-refl}
-use lib.IntN.{ℤ, pos, _+ℤ_, _*ℤ_, +ℤ-assoc, +ℤ-idl, +ℤ-idr, *ℤ-comm, *ℤ-zero}
+use lib.IntN.{ℤ, pos, _+ℤ_, _*ℤ_, +ℤ-idl, +ℤ-idr, *ℤ-comm, *ℤ-zero}
 use lib.ListN.{length}
 use Rattle.algebra.specs.Pattern.{Pattern, times, same}
-use Rattle.algebra.specs.Sum.{Term, term, Sum, inVariables}
-use Rattle.algebra.specs.Arithmetic.{timesTerm, _⊗_}
+use Rattle.algebra.specs.Sum.{Term, Sum, inVariables, ordered}
+use Rattle.algebra.specs.Arithmetic.{_⊗_, power}
 use Rattle.algebra.specs.Value.{total, onlyIf, coefficientIn, coefficient, splitNumber, splitPattern}
-use Rattle.algebra.proofs.Numbers.Whole.{*ℤ-+ℤ, +ℤ-left-comm}
+use Rattle.algebra.proofs.Numbers.Whole.{+ℤ-mix}
 use Rattle.algebra.proofs.Sums.Total.{total-ext, total-times}
 use Rattle.algebra.proofs.Sums.Every.{Every, Long, variables-every}
 use Rattle.algebra.proofs.Numbers.Test.{true-is, false-is}
+use Rattle.algebra.proofs.Sums.Ordered.{ordered-variables}
 use Rattle.algebra.proofs.Sums.Equal.{coefficient-additive}
-use Rattle.algebra.proofs.Sums.Ring.{product-total}
-
-mix : (a b c d : ℤ) → (a +ℤ b) +ℤ (c +ℤ d) ≡ (a +ℤ c) +ℤ (b +ℤ d)
-mix a b c d = simp (+ℤ-assoc, +ℤ-left-comm)
+use Rattle.algebra.proofs.Sums.Ring.{product-total, power-suc}
+use Rattle.algebra.proofs.Sums.Results.{power-ordered}
 
 -- ---- Splitting is additive, and nothing split is nothing.
 
 number-plus : (f g : ℕ → ℕ → ℤ) (i j : ℕ) → splitNumber (λ a b. f a b +ℤ g a b) i j ≡ splitNumber f i j +ℤ splitNumber g i j
 unfolding splitNumber
 number-plus f g zero j = refl
-number-plus f g (suc i) j = ap (λ z. (f (suc i) j +ℤ g (suc i) j) +ℤ z) (number-plus f g i (suc j)) ∙ mix (f (suc i) j) (g (suc i) j) (splitNumber f i (suc j)) (splitNumber g i (suc j))
+number-plus f g (suc i) j = ap (λ z. (f (suc i) j +ℤ g (suc i) j) +ℤ z) (number-plus f g i (suc j)) ∙ +ℤ-mix (f (suc i) j) (g (suc i) j) (splitNumber f i (suc j)) (splitNumber g i (suc j))
 
 number-none : (i j : ℕ) → splitNumber (λ a b. pos 0) i j ≡ pos 0
 unfolding splitNumber
@@ -166,3 +165,8 @@ product-coefficient n s t h k r = sym
     ∙ pattern-total (λ u p q. total (λ v. coefficientIn p u *ℤ coefficientIn q v) t) s r
     ∙ every-total n (λ u hu. pattern-total (λ v p q. coefficientIn p u *ℤ coefficientIn q v) t r ∙ every-total n (λ v hv. pattern-split (u .pattern) (v .pattern) (u .coefficient) (v .coefficient) r (hu ∙ sym hv)) t (variables-every n t k)) s (variables-every n s h)
     ∙ sym (unfold coefficient in product-total (coefficientIn r) (coefficient-additive r) s t))
+
+pub power-coefficient : (n : ℕ) (s : Sum) (e : ℕ) → T (ordered n s) → (r : Pattern)
+    → coefficient (power n s (suc e)) r ≡ splitPattern (λ p q. coefficient (power n s e) p *ℤ coefficient s q) r
+power-coefficient n s e h r =
+    ap (λ t. coefficient t r) (power-suc n s e h) ∙ product-coefficient n (power n s e) s (ordered-variables n (power n s e) (power-ordered n s e h)) (ordered-variables n s h) r

@@ -1,22 +1,22 @@
 -- Sums put for variables: the value is the value at the replaced variables, one pair is a case of all at once, and results are bounded as 01 counts them.
 use mathlib.Core.Path.{_≡_, refl, sym, _∙_, ap, ap₂}
-use mathlib.Core.List.{List, [], _∷_, _++_}
-use Prim.Native.Nat.{ℕ, zero, suc, _+_, _*_, _^_, max, _≤_, _<_}
+use mathlib.Core.List.{List, [], _∷_}
+use Prim.Native.Nat.{ℕ, zero, suc, _+_, _*_, _≤_, _<_}
 use native.Mathlib.Omega.{arith}
 use native.Mathlib.Nat.{le-refl, le-trans, le-max-left, le-max-right, mul-le-mul-left}
 use lib.Dec.{T}
 use lib.IntN.{ℤ, pos, natAbs, _+ℤ_, _*ℤ_, *ℤ-comm, pow, one}
-use lib.ListN.{length, getD, set, length-set}
+use lib.ListN.{length, set, length-set}
 use Rattle.algebra.specs.Pattern.{Pattern, times, degree, exponent, without}
-use Rattle.algebra.specs.Sum.{Term, term, Sum, ordered, degreeOf, weight}
+use Rattle.algebra.specs.Sum.{term, Sum, ordered, degreeOf, weight}
 use Rattle.algebra.specs.Collect.{collect, spread}
-use Rattle.algebra.specs.Arithmetic.{unit, row, _⊗_, power, powerSpread}
-use Rattle.algebra.specs.Value.{total, patternValue, termValue, value}
+use Rattle.algebra.specs.Arithmetic.{unit, row, power}
+use Rattle.algebra.specs.Value.{total, patternValue, value}
 use Rattle.algebra.specs.Substitute.{rows, pairFactor, pairRows, substitute, pairDegree, pairWeight, pairSpread, Put, kept, put, others, putFactor, putAll, replacedBy, onlyPut}
 use Rattle.algebra.proofs.Numbers.Whole.{*ℤ-assoc, one-*ℤ, *ℤ-oner, *ℤ-left-comm}
 use Rattle.algebra.proofs.Patterns.Laws.{times-length, times-degree}
 use Rattle.algebra.proofs.Sums.Every.{Every, every-map, append-every, collect-every, row-every, Long, UpTo, degree-every, every-degree}
-use Rattle.algebra.proofs.Sums.Ordered.{Parts, parts, collect-ordered}
+use Rattle.algebra.proofs.Sums.Ordered.{parts, collect-ordered}
 use Rattle.algebra.proofs.Sums.Occurs.{collect-length}
 use Rattle.algebra.proofs.Sums.Values.{collect-value, append-value, cons-value, unit-value, row-value, product-value, power-value}
 use Rattle.algebra.proofs.Sums.Ring.{product-comm, unit-product}

@@ -3,14 +3,14 @@
 use mathlib.Core.Path.{_≡_, refl, sym, _∙_, ap, ap₂}
 use mathlib.Core.Bool.{Bool, true, false}
 use mathlib.Core.List.{List, [], _∷_, _++_, map}
-use Prim.Native.Nat.{ℕ, zero, suc, Ordering, Ordering·lt, Ordering·eq, Ordering·gt}
+use Prim.Native.Nat.{zero, suc, Ordering, Ordering·lt, Ordering·eq, Ordering·gt}
 use lib.IntN.{ℤ, pos, negsuc, _+ℤ_, _*ℤ_, +ℤ-assoc, +ℤ-idl, *ℤ-zero}
 use Rattle.algebra.specs.Pattern.{Pattern, order}
 use Rattle.algebra.specs.Sum.{Term, term, Sum, isZero}
 use Rattle.algebra.specs.Collect.{place, insert, gather, keep, dropZeros, collect}
 use Rattle.algebra.specs.Arithmetic.{timesTerm, row, pairs}
 use Rattle.algebra.specs.Value.{total}
-use Rattle.algebra.proofs.Numbers.Whole.{*ℤ-+ℤ, +ℤ-left-comm}
+use Rattle.algebra.proofs.Numbers.Whole.{*ℤ-+ℤ, +ℤ-left-comm, +ℤ-mix}
 use Rattle.algebra.proofs.Patterns.Order.{order-eq}
 
 pub record Additive (f : Term → ℤ) : Type 0 where
@@ -32,13 +32,10 @@ unfolding total
 total-map f g [] = refl
 total-map f g (t ∷ l) = ap (λ z. f (g t) +ℤ z) (total-map f g l)
 
-mix : (a b c d : ℤ) → (a +ℤ b) +ℤ (c +ℤ d) ≡ (a +ℤ c) +ℤ (b +ℤ d)
-mix a b c d = simp (+ℤ-assoc, +ℤ-left-comm)
-
 pub total-plus : (f g : Term → ℤ) (l : List Term) → total (λ t. f t +ℤ g t) l ≡ total f l +ℤ total g l
 unfolding total
 total-plus f g [] = refl
-total-plus f g (t ∷ l) = rw (total-plus f g l) (mix (f t) (g t) (total f l) (total g l))
+total-plus f g (t ∷ l) = rw (total-plus f g l) (+ℤ-mix (f t) (g t) (total f l) (total g l))
 
 pub total-none : (l : List Term) → total (λ t. pos 0) l ≡ pos 0
 unfolding total

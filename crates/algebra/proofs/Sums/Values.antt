@@ -4,15 +4,15 @@ use mathlib.Core.List.{List, [], _∷_, _++_}
 use Prim.Native.Nat.{ℕ, zero, suc, _+_, _<_}
 use native.Mathlib.Omega.{arith}
 use native.Mathlib.Nat.{add-zero, add-suc}
-use lib.IntN.{ℤ, pos, _+ℤ_, _*ℤ_, +ℤ-idr, *ℤ-comm, zero-*ℤ, pow, one}
-use lib.ListN.{length, getD, set, replicate}
+use lib.IntN.{ℤ, pos, _+ℤ_, _*ℤ_, +ℤ-idr, zero-*ℤ, pow, one}
+use lib.ListN.{getD, set}
 use Rattle.algebra.specs.Pattern.{Pattern, emptyPattern, times}
 use Rattle.algebra.specs.Sum.{Term, term, Sum}
 use Rattle.algebra.specs.Collect.{collect}
 use Rattle.algebra.specs.Arithmetic.{constant, variable, unit, timesTerm, row, pairs, _⊕_, _⊗_, power}
 use Rattle.algebra.specs.Value.{total, patternValue, termValue, value}
-use Rattle.algebra.proofs.Numbers.Whole.{*ℤ-assoc, +ℤ-*ℤ, one-*ℤ, *ℤ-oner, *ℤ-left-comm}
-use Rattle.algebra.proofs.Sums.Total.{Additive, total-ext, total-append, total-times, row-total, pairs-total, collect-total}
+use Rattle.algebra.proofs.Numbers.Whole.{*ℤ-assoc, +ℤ-*ℤ, one-*ℤ, *ℤ-oner, *ℤ-mix}
+use Rattle.algebra.proofs.Sums.Total.{Additive, total-ext, total-append, total-times, row-total, collect-total}
 
 pub value-additive : (x : List ℤ) → Additive (termValue x)
 value-additive x = record { plus = λ c d p. +ℤ-*ℤ c d (patternValue p x); none = λ p. zero-*ℤ (patternValue p x) }
@@ -36,18 +36,15 @@ unfolding pow one
 pow-add a e zero = rw add-zero (sym (*ℤ-oner (pow a e)))
 pow-add a e (suc f) = rw (add-suc, pow-add a e f) (*ℤ-assoc (pow a e) (pow a f) a)
 
-mix : (a b c d : ℤ) → (a *ℤ b) *ℤ (c *ℤ d) ≡ (a *ℤ c) *ℤ (b *ℤ d)
-mix a b c d = simp (*ℤ-assoc, *ℤ-left-comm)
-
 pub times-value : (p q : Pattern) (x : List ℤ) → patternValue (times p q) x ≡ patternValue p x *ℤ patternValue q x
 unfolding times patternValue
 times-value [] q x = sym (one-*ℤ (patternValue q x))
 times-value (e ∷ p) [] x = sym (*ℤ-oner (patternValue (e ∷ p) x))
 times-value (e ∷ p) (f ∷ q) [] = refl
-times-value (e ∷ p) (f ∷ q) (a ∷ x) = rw (pow-add a e f, times-value p q x) (mix (pow a e) (pow a f) (patternValue p x) (patternValue q x))
+times-value (e ∷ p) (f ∷ q) (a ∷ x) = rw (pow-add a e f, times-value p q x) (*ℤ-mix (pow a e) (pow a f) (patternValue p x) (patternValue q x))
 
 pub term-value : (x : List ℤ) (u t : Term) → termValue x (timesTerm u t) ≡ termValue x u *ℤ termValue x t
-term-value x u t = rw (times-value (u .pattern) (t .pattern) x) (mix (u .coefficient) (t .coefficient) (patternValue (u .pattern) x) (patternValue (t .pattern) x))
+term-value x u t = rw (times-value (u .pattern) (t .pattern) x) (*ℤ-mix (u .coefficient) (t .coefficient) (patternValue (u .pattern) x) (patternValue (t .pattern) x))
 
 pub empty-value : (n : ℕ) (x : List ℤ) → patternValue (emptyPattern n) x ≡ pos 1
 unfolding patternValue pow one
