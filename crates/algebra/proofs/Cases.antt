@@ -1,122 +1,139 @@
--- Cases of document 01, computed by the definitions, in eight variables.
-use mathlib.Core.Path.{_≡_, refl}
-use mathlib.Core.Bool.{true}
-use mathlib.Core.List.{[], _∷_}
+-- Cases of document 01, in eight variables: one table, and one statement over it, which the checker computes.
+use mathlib.Core.Path.{_≡_}
+use mathlib.Core.Bool.{Bool, true, _&&_}
+use mathlib.Core.List.{List, [], _∷_}
 use Prim.Native.Nat.{ℕ}
-use lib.IntN.{pos, negsuc, one, pow}
+use lib.Dec.{T, eqb, eqb→eq}
+use lib.IntN.{ℤ, pos, negsuc, one, pow}
 use lib.ListN.{length}
 use Rattle.algebra.specs.Limits.{variables, largestWeight}
 use Rattle.algebra.specs.Pattern.{times, degree, same, thenBy, byPowers, order}
-use Rattle.algebra.specs.Sum.{term, Sum, ahead, inOrder, noZero, inVariables, ordered, degreeOf, weight}
+use Rattle.algebra.specs.Sum.{term, Sum, weight}
 use Rattle.algebra.specs.Collect.{place, insert, gather, keep, dropZeros, collect, occurs, countNew, spread}
-use Rattle.algebra.specs.Arithmetic.{constant, variable, row, pairs, _⊕_, sumSpread, _⊗_, productSpread, power, powerSpread}
+use Rattle.algebra.specs.Arithmetic.{constant, variable, row, pairs, _⊕_, _⊗_, productSpread, power, powerSpread}
 use Rattle.algebra.specs.Slope.{slope}
 use Rattle.algebra.specs.Substitute.{rows, pairRows, substitute, pairDegree, pairWeight, largestPower, pairSpread}
-use Rattle.algebra.specs.Value.{total, patternValue, value, onlyIf, coefficient}
+use Rattle.algebra.specs.Value.{total, patternValue, value}
 use Rattle.algebra.specs.Margin.{patternSize, size, unsigned, raisedBy, margin}
+use Rattle.algebra.proofs.Numbers.Test.{and-l, and-r}
+use Rattle.algebra.proofs.Numbers.Solve.{sameNumber, number-eq, sameSum, sum-eq}
 
--- `unfolding computing` opens every definition that these cases compute with
+-- ---- A case says that two sums, two counts or two whole numbers are equal; the test computes both.
+
+data Case : Type 0 where
+  sums : Sum → Sum → Case
+  counts : ℕ → ℕ → Case
+  numbers : ℤ → ℤ → Case
+
+abbrev Says : Case → Type 0
+Says (sums s t) = s ≡ t
+Says (counts m n) = m ≡ n
+Says (numbers x y) = x ≡ y
+
+abbrev Each : List Case → Type 0
+Each [] = Unit {0}
+Each (c ∷ cs) = Says c × Each cs
+
+holds : Case → Bool
+unfolding sameSum sameNumber
+holds (sums s t) = sameSum s t
+holds (counts m n) = eqb m n
+holds (numbers x y) = sameNumber x y
+
+hold : List Case → Bool
+unfolding holds
+hold [] = true
+hold (c ∷ cs) = holds c && hold cs
+
+says : (c : Case) → T (holds c) → Says c
+unfolding holds
+says (sums s t) h = sum-eq s t h
+says (counts m n) h = eqb→eq m n h
+says (numbers x y) h = number-eq x y h
+
+each : (cs : List Case) → T (hold cs) → Each cs
+unfolding hold
+each [] h = tt
+each (c ∷ cs) h = (says c (and-l (holds c) (hold cs) h), each cs (and-r (holds c) (hold cs) h))
+
+-- ---- Short names for the table. `unfolding computing` opens every definition that it computes with.
+
 computing : ℕ
-unfolding times degree same thenBy byPowers order ahead inOrder noZero inVariables ordered degreeOf weight place insert gather keep dropZeros collect occurs countNew spread constant variable row pairs _⊕_ sumSpread _⊗_ productSpread power powerSpread slope rows pairRows substitute pairDegree pairWeight largestPower pairSpread total patternValue value onlyIf coefficient patternSize size unsigned raisedBy margin one pow
+unfolding times degree same thenBy byPowers order weight place insert gather keep dropZeros collect occurs countNew spread constant variable row pairs _⊕_ _⊗_ productSpread power powerSpread slope rows pairRows substitute pairDegree pairWeight largestPower pairSpread total patternValue value patternSize size unsigned raisedBy margin one pow
 computing = 0
 
 x : ℕ → Sum
 unfolding computing
-x i = variable variables i
+x v = variable variables v
+
+a : Sum
+unfolding x
+a = x 0
+
+b : Sum
+unfolding x
+b = x 1
+
+number : ℤ → Sum
+unfolding computing
+number n = constant variables n
+
+infixl 9 _to_
+_to_ : Sum → ℕ → Sum
+unfolding computing
+s to k = power variables s k
 
 minus : Sum → Sum
-unfolding computing
-minus s = constant variables (negsuc 0) ⊗ s
+unfolding number
+minus s = number (negsuc 0) ⊗ s
 
-to : Sum → ℕ → Sum
-unfolding computing
-to s e = power variables s e
-
--- (a + b)² − b² is a² + 2ab
+-- (a + b)² − b²
 square : Sum
-unfolding computing x minus to
-square = to (x 0 ⊕ x 1) 2 ⊕ minus (to (x 1) 2)
+unfolding a b _to_ minus
+square = (a ⊕ b) to 2 ⊕ minus (b to 2)
 
-square-is : square ≡ term (pos 1) (2 ∷ 0 ∷ 0 ∷ 0 ∷ 0 ∷ 0 ∷ 0 ∷ 0 ∷ []) ∷ term (pos 2) (1 ∷ 1 ∷ 0 ∷ 0 ∷ 0 ∷ 0 ∷ 0 ∷ 0 ∷ []) ∷ []
-unfolding square
-square-is = refl
-
--- its slope by a is 2a + 2b, by c zero; by b first it is 2a, while with b := 0 put in first it is zero
-slope-a : slope 0 square ≡ term (pos 2) (1 ∷ 0 ∷ 0 ∷ 0 ∷ 0 ∷ 0 ∷ 0 ∷ 0 ∷ []) ∷ term (pos 2) (0 ∷ 1 ∷ 0 ∷ 0 ∷ 0 ∷ 0 ∷ 0 ∷ 0 ∷ []) ∷ []
-unfolding square
-slope-a = refl
-
-slope-c : slope 2 square ≡ []
-unfolding square
-slope-c = refl
-
-slope-b-first : substitute variables 1 [] (slope 1 square) ≡ term (pos 2) (1 ∷ 0 ∷ 0 ∷ 0 ∷ 0 ∷ 0 ∷ 0 ∷ 0 ∷ []) ∷ []
-unfolding square
-slope-b-first = refl
-
-slope-b-last : slope 1 (substitute variables 1 [] square) ≡ []
-unfolding square
-slope-b-last = refl
-
--- a = 10, b = 3 with tolerances 1 and 2: estimate 160, margin 71, reached at 11 and 5
-estimate : value square (pos 10 ∷ pos 3 ∷ []) ≡ pos 160
-unfolding square
-estimate = refl
-
-estimate-margin : margin square (pos 10 ∷ pos 3 ∷ []) (1 ∷ 2 ∷ []) ≡ 71
-unfolding square
-estimate-margin = refl
-
-reached : value square (pos 11 ∷ pos 5 ∷ []) ≡ pos 231
-unfolding square
-reached = refl
-
--- a² at −3 with tolerance 1
-negative : margin (to (x 0) 2) (negsuc 2 ∷ []) (1 ∷ []) ≡ 7
-unfolding x to
-negative = refl
-
--- 0^0 and (a − a)^0 are 1, and a − a is zero
-zero-power : to (constant variables (pos 0)) 0 ≡ constant variables (pos 1)
-unfolding to
-zero-power = refl
-
-difference : x 0 ⊕ minus (x 0) ≡ []
-unfolding x minus
-difference = refl
-
--- a^60, product by product
-sixty : to (x 0) 60 ≡ term (pos 1) (60 ∷ 0 ∷ 0 ∷ 0 ∷ 0 ∷ 0 ∷ 0 ∷ 0 ∷ []) ∷ []
-unfolding x to
-sixty = refl
-
--- the largest weight: (2a)^62 has one term, of coefficient 2^62
-heaviest : weight (to (constant variables (pos 2) ⊗ x 0) 62) ≡ largestWeight
-unfolding x to
-heaviest = refl
-
--- (a − b)(a + b): three patterns among the pairs, and two terms
-cancelled : productSpread (x 0 ⊕ minus (x 1)) (x 0 ⊕ x 1) ≡ 3
-unfolding x minus
-cancelled = refl
-
-left-over : length ((x 0 ⊕ minus (x 1)) ⊗ (x 0 ⊕ x 1)) ≡ 2
-unfolding x minus
-left-over = refl
-
--- the cube of a + b + … + h has 120 terms
-cube : Sum
-unfolding x to
-cube = to (x 0 ⊕ x 1 ⊕ x 2 ⊕ x 3 ⊕ x 4 ⊕ x 5 ⊕ x 6 ⊕ x 7) 3
-
-cube-length : length cube ≡ 120
-unfolding cube
-cube-length = refl
-
-cube-ordered : ordered variables cube ≡ true
-unfolding cube
-cube-ordered = refl
-
-cube-spread : powerSpread variables (x 0 ⊕ x 1 ⊕ x 2 ⊕ x 3 ⊕ x 4 ⊕ x 5 ⊕ x 6 ⊕ x 7) 3 ≡ 120
+-- a + b + … + h
+everyone : Sum
 unfolding x
-cube-spread = refl
+everyone = x 0 ⊕ x 1 ⊕ x 2 ⊕ x 3 ⊕ x 4 ⊕ x 5 ⊕ x 6 ⊕ x 7
+
+-- ---- The table.
+
+table : List Case
+unfolding square everyone _to_ minus number a b x
+table =
+    -- 0^0 and (a − a)^0 are 1, and a − a is zero
+    sums (number (pos 0) to 0) (number (pos 1))
+    ∷ sums ((a ⊕ minus a) to 0) (number (pos 1))
+    ∷ sums (a ⊕ minus a) []
+    -- (a + b)² − b² is a² + 2ab; its slopes by a and by c
+    ∷ sums square (term (pos 1) (2 ∷ 0 ∷ 0 ∷ 0 ∷ 0 ∷ 0 ∷ 0 ∷ 0 ∷ []) ∷ term (pos 2) (1 ∷ 1 ∷ 0 ∷ 0 ∷ 0 ∷ 0 ∷ 0 ∷ 0 ∷ []) ∷ [])
+    ∷ sums (slope 0 square) (term (pos 2) (1 ∷ 0 ∷ 0 ∷ 0 ∷ 0 ∷ 0 ∷ 0 ∷ 0 ∷ []) ∷ term (pos 2) (0 ∷ 1 ∷ 0 ∷ 0 ∷ 0 ∷ 0 ∷ 0 ∷ 0 ∷ []) ∷ [])
+    ∷ sums (slope 2 square) []
+    -- with b := 0 it is a², whose slope by b is zero; the slope by b first is 2a
+    ∷ sums (substitute variables 1 [] square) (a to 2)
+    ∷ sums (slope 1 (substitute variables 1 [] square)) []
+    ∷ sums (slope 1 square) (number (pos 2) ⊗ a)
+    -- a = 10, b = 3, tolerances 1 and 2: estimate 160, margin 71, reached at 11 and 5
+    ∷ numbers (value square (pos 10 ∷ pos 3 ∷ [])) (pos 160)
+    ∷ counts (margin square (pos 10 ∷ pos 3 ∷ []) (1 ∷ 2 ∷ [])) 71
+    ∷ numbers (value square (pos 11 ∷ pos 5 ∷ [])) (pos 231)
+    -- a² at −3, tolerance 1: estimate 9, margin 7
+    ∷ numbers (value (a to 2) (negsuc 2 ∷ [])) (pos 9)
+    ∷ counts (margin (a to 2) (negsuc 2 ∷ []) (1 ∷ [])) 7
+    -- 0 · 2^62 is zero; (2a)^62 has the largest weight
+    ∷ sums (number (pos 0) ⊗ number (pos largestWeight)) []
+    ∷ counts (weight ((number (pos 2) ⊗ a) to 62)) largestWeight
+    -- a^60, product by product
+    ∷ sums (a to 60) (term (pos 1) (60 ∷ 0 ∷ 0 ∷ 0 ∷ 0 ∷ 0 ∷ 0 ∷ 0 ∷ []) ∷ [])
+    -- (a − b)(a + b): three patterns among the pairs, and two terms
+    ∷ counts (productSpread (a ⊕ minus b) (a ⊕ b)) 3
+    ∷ counts (length ((a ⊕ minus b) ⊗ (a ⊕ b))) 2
+    -- the cube of a + … + h has 120 terms, and no step of it more patterns
+    ∷ counts (length (everyone to 3)) 120
+    ∷ counts (powerSpread variables everyone 3) 120
+    ∷ []
+
+cases-hold : Each table
+unfolding table hold
+cases-hold = each table tt

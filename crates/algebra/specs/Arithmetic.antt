@@ -14,7 +14,7 @@ constant n c = collect (term c (emptyPattern n) ∷ [])
 unfoldable pub variable : ℕ → ℕ → Sum
 variable n v = term (pos 1) (set (emptyPattern n) v 1) ∷ []
 
--- 1
+-- the number 1, as a power with exponent 0 gives it
 abbrev pub unit : ℕ → Sum
 unit n = term (pos 1) (emptyPattern n) ∷ []
 

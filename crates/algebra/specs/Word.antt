@@ -19,11 +19,11 @@ unfoldable pub fieldsOf : ℕ → ℕ → ℕ → Pattern
 fieldsOf B zero w = []
 fieldsOf B (suc n) w = w / B ^ n % B ∷ fieldsOf B n w
 
--- the terms held in a list of words and a list of coefficients, place by place
-unfoldable pub termsOf : ℕ → ℕ → List ℕ → List ℤ → List Term
-termsOf B n [] cs = []
-termsOf B n (w ∷ ws) [] = []
-termsOf B n (w ∷ ws) (c ∷ cs) = term c (fieldsOf B n w) ∷ termsOf B n ws cs
+-- the terms held in a list of words and a list of coefficients, place by place, where `read` gives the exponents of a word
+unfoldable pub termsBy : (ℕ → Pattern) → List ℕ → List ℤ → List Term
+termsBy read [] cs = []
+termsBy read (w ∷ ws) [] = []
+termsBy read (w ∷ ws) (c ∷ cs) = term c (read w) ∷ termsBy read ws cs
 
 -- ---- The layout: a byte for each variable, a in the highest and h in the lowest.
 
@@ -37,7 +37,7 @@ unfoldable pub exponents : ℕ → Pattern
 exponents w = fieldsOf fieldSize variables w
 
 unfoldable pub terms : List ℕ → List ℤ → List Term
-terms ws cs = termsOf fieldSize variables ws cs
+terms ws cs = termsBy exponents ws cs
 
 -- the word is that of a pattern, and the pattern is within the limits
 pub record Valid (w : ℕ) : Type 0 where

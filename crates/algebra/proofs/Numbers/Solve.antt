@@ -73,13 +73,13 @@ sumOf-value (:- e) x =
     ∙ negℤ-*ℤ (pos 1) (says x e) ∙ ap negℤ (one-*ℤ (says x e))
 
 -- a test of both sums: far quicker than a path between them
-sameNumber : ℤ → ℤ → Bool
+unfoldable pub sameNumber : ℤ → ℤ → Bool
 sameNumber (pos a) (pos b) = eqb a b
 sameNumber (pos a) (negsuc b) = false
 sameNumber (negsuc a) (pos b) = false
 sameNumber (negsuc a) (negsuc b) = eqb a b
 
-number-eq : (a b : ℤ) → T (sameNumber a b) → a ≡ b
+pub number-eq : (a b : ℤ) → T (sameNumber a b) → a ≡ b
 unfolding sameNumber
 number-eq (pos a) (pos b) h = ap pos (eqb→eq a b h)
 number-eq (pos a) (negsuc b) h = absurd h
