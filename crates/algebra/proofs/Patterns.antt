@@ -3,3 +3,4 @@ pub mod Laws
 pub mod Order
 pub mod Fields
 pub mod Word
+pub mod Held

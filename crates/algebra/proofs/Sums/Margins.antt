@@ -92,3 +92,8 @@ value-raised s w = near-large (near-value s w)
 pub estimate-raised : (s : Sum) {x r : List ℤ} {t : List ℕ} → Within x r t → natAbs (value s r) + margin s r t ≤ size s (raisedBy t r)
 unfolding margin
 estimate-raised s w = let N = near-value s w in omega (arith, N .apart, N .small)
+
+-- nothing is lost in the difference: the plain value and the margin make up the raised value
+pub margin-whole : (s : Sum) (r : List ℤ) (t : List ℕ) → length r ≡ length t → size s (unsigned r) + margin s r t ≡ size s (raisedBy t r)
+unfolding margin
+margin-whole s r t h = omega (arith, near-value s (within-self r t h) .apart)
