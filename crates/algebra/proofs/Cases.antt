@@ -1,16 +1,16 @@
--- Cases of document 01, in eight variables: one table, and one statement over it, which the checker computes.
+-- Cases of document 01 and some beside them, in eight variables: one table, and one statement over it, which the checker computes.
 use mathlib.Core.Path.{_≡_}
 use mathlib.Core.Bool.{Bool, true, _&&_}
 use mathlib.Core.List.{List, [], _∷_}
 use Prim.Native.Nat.{ℕ}
 use lib.Dec.{T, eqb, eqb→eq}
 use lib.IntN.{ℤ, pos, negsuc, one, pow}
-use lib.ListN.{length}
+use lib.ListN.{length, replicate}
 use Rattle.algebra.specs.Limits.{variables, largestWeight}
 use Rattle.algebra.specs.Pattern.{times, degree, same, thenBy, byPowers, order}
-use Rattle.algebra.specs.Sum.{term, Sum, weight}
+use Rattle.algebra.specs.Sum.{term, Sum, degreeOf, weight}
 use Rattle.algebra.specs.Collect.{place, insert, gather, keep, dropZeros, collect, occurs, countNew, spread}
-use Rattle.algebra.specs.Arithmetic.{constant, variable, row, pairs, _⊕_, _⊗_, productSpread, power, powerSpread}
+use Rattle.algebra.specs.Arithmetic.{constant, variable, row, pairs, _⊕_, sumSpread, _⊗_, productSpread, power, powerSpread}
 use Rattle.algebra.specs.Slope.{slope}
 use Rattle.algebra.specs.Substitute.{rows, pairRows, substitute, pairDegree, pairWeight, largestPower, pairSpread}
 use Rattle.algebra.specs.Value.{total, patternValue, value}
@@ -59,7 +59,7 @@ each (c ∷ cs) h = (says c (and-l (holds c) (hold cs) h), each cs (and-r (holds
 -- ---- Short names for the table. `unfolding computing` opens every definition that it computes with.
 
 computing : ℕ
-unfolding times degree same thenBy byPowers order weight place insert gather keep dropZeros collect occurs countNew spread constant variable row pairs _⊕_ _⊗_ productSpread power powerSpread slope rows pairRows substitute pairDegree pairWeight largestPower pairSpread total patternValue value patternSize size unsigned raisedBy margin one pow
+unfolding times degree same thenBy byPowers order degreeOf weight place insert gather keep dropZeros collect occurs countNew spread constant variable row pairs _⊕_ sumSpread _⊗_ productSpread power powerSpread slope rows pairRows substitute pairDegree pairWeight largestPower pairSpread total patternValue value patternSize size unsigned raisedBy margin one pow
 computing = 0
 
 x : ℕ → Sum
@@ -92,6 +92,15 @@ square : Sum
 unfolding a b _to_ minus
 square = (a ⊕ b) to 2 ⊕ minus (b to 2)
 
+-- 1 + 2a − 2a²
+bent : Sum
+unfolding a _to_ number minus
+bent = number (pos 1) ⊕ number (pos 2) ⊗ a ⊕ minus (number (pos 2) ⊗ a to 2)
+
+-- values of a and b; those of c to h are 0
+at : ℤ → ℤ → List ℤ
+at p q = p ∷ q ∷ replicate 6 (pos 0)
+
 -- a + b + … + h
 everyone : Sum
 unfolding x
@@ -100,7 +109,7 @@ everyone = x 0 ⊕ x 1 ⊕ x 2 ⊕ x 3 ⊕ x 4 ⊕ x 5 ⊕ x 6 ⊕ x 7
 -- ---- The table.
 
 table : List Case
-unfolding square everyone _to_ minus number a b x
+unfolding square bent at everyone _to_ minus number a b x
 table =
     -- 0^0 and (a − a)^0 are 1, and a − a is zero
     sums (number (pos 0) to 0) (number (pos 1))
@@ -115,20 +124,28 @@ table =
     ∷ sums (slope 1 (substitute variables 1 [] square)) []
     ∷ sums (slope 1 square) (number (pos 2) ⊗ a)
     -- a = 10, b = 3, tolerances 1 and 2: estimate 160, margin 71, reached at 11 and 5
-    ∷ numbers (value square (pos 10 ∷ pos 3 ∷ [])) (pos 160)
-    ∷ counts (margin square (pos 10 ∷ pos 3 ∷ []) (1 ∷ 2 ∷ [])) 71
-    ∷ numbers (value square (pos 11 ∷ pos 5 ∷ [])) (pos 231)
+    ∷ numbers (value square (at (pos 10) (pos 3))) (pos 160)
+    ∷ counts (margin square (at (pos 10) (pos 3)) (1 ∷ 2 ∷ replicate 6 0)) 71
+    ∷ numbers (value square (at (pos 11) (pos 5))) (pos 231)
     -- a² at −3, tolerance 1: estimate 9, margin 7
-    ∷ numbers (value (a to 2) (negsuc 2 ∷ [])) (pos 9)
-    ∷ counts (margin (a to 2) (negsuc 2 ∷ []) (1 ∷ [])) 7
-    -- 0 · 2^62 is zero; (2a)^62 has the largest weight
+    ∷ numbers (value (a to 2) (at (negsuc 2) (pos 0))) (pos 9)
+    ∷ counts (margin (a to 2) (at (negsuc 2) (pos 0)) (1 ∷ replicate 7 0)) 7
+    -- 0 · 2^62 is zero; 4 · (2a)^60 has the largest weight
     ∷ sums (number (pos 0) ⊗ number (pos largestWeight)) []
-    ∷ counts (weight ((number (pos 2) ⊗ a) to 62)) largestWeight
+    ∷ counts (weight (number (pos 4) ⊗ (number (pos 2) ⊗ a) to 60)) largestWeight
     -- a^60, product by product
     ∷ sums (a to 60) (term (pos 1) (60 ∷ 0 ∷ 0 ∷ 0 ∷ 0 ∷ 0 ∷ 0 ∷ 0 ∷ []) ∷ [])
     -- (a − b)(a + b): three patterns among the pairs, and two terms
     ∷ counts (productSpread (a ⊕ minus b) (a ⊕ b)) 3
     ∷ counts (length ((a ⊕ minus b) ⊗ (a ⊕ b))) 2
+    ∷ counts (sumSpread (a ⊕ b) (minus a ⊕ x 2)) 3
+    -- degree with a³ put for b; weight with a − c put for b, and with 0 put for b, where 0^0 is 1
+    ∷ counts (pairDegree 1 (a to 3) square) 4
+    ∷ counts (pairWeight 1 (a ⊕ minus (x 2)) square) 5
+    ∷ counts (pairWeight 1 [] square) 1
+    -- 1 + 2a − 2a² put for a in a²: its square has five patterns, of which a² cancels
+    ∷ counts (pairSpread variables 0 bent (a to 2)) 5
+    ∷ counts (length (substitute variables 0 bent (a to 2))) 4
     -- the cube of a + … + h has 120 terms, and no step of it more patterns
     ∷ counts (length (everyone to 3)) 120
     ∷ counts (powerSpread variables everyone 3) 120

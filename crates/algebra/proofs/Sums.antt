@@ -4,6 +4,7 @@ pub mod Every
 pub mod Ordered
 pub mod Occurs
 pub mod Equal
+pub mod Spreads
 pub mod Ring
 pub mod Values
 pub mod Coefficients

@@ -15,7 +15,8 @@ use Rattle.algebra.proofs.Pattern.compare.Reads as compare
 use Rattle.algebra.proofs.Pattern.exponent.Reads as exponent
 use Rattle.algebra.proofs.Pattern.slope_step.Reads as slope-step
 
--- a function's `Learnt` is what its caller learns: of the arguments, the result, and the arguments after the call. It holds of one result.
+-- A function's `Learnt` is what its caller learns: of the arguments, the result, and the arguments after the call. These functions lend
+-- nothing, so the result is all that a caller sees, and `Learnt` holds of one result.
 abbrev pub One : {K : Type 0} {Arguments Result Exit : K → Type 0} → ((k : K) → Arguments k → Result k → Exit k → Type 0) → Type 0
 One {K} {Arguments} {Result} {Exit} learnt = (k : K) (a : Arguments k) (r r' : Result k) (e e' : Exit k) → learnt k a r e → learnt k a r' e' → r ≡ r'
 

@@ -1,4 +1,4 @@
--- The numbers of document 01. Each is written here and nowhere else.
+-- The numbers of document 01, each once. The code's constants are proved equal to them.
 use Prim.Native.Nat.{ℕ, _^_}
 
 -- the variables a to h

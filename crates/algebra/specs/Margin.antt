@@ -20,14 +20,14 @@ unfoldable pub unsigned : List ℤ → List ℕ
 unsigned [] = []
 unsigned (r ∷ rs) = natAbs r ∷ unsigned rs
 
-unfoldable pub raisedBy : List ℕ → List ℤ → List ℕ
-raisedBy ts [] = []
-raisedBy [] (r ∷ rs) = natAbs r ∷ raisedBy [] rs
-raisedBy (t ∷ ts) (r ∷ rs) = (natAbs r + t) ∷ raisedBy ts rs
+unfoldable pub raisedBy : List ℤ → List ℕ → List ℕ
+raisedBy [] ts = []
+raisedBy (r ∷ rs) [] = natAbs r ∷ raisedBy rs []
+raisedBy (r ∷ rs) (t ∷ ts) = (natAbs r + t) ∷ raisedBy rs ts
 
 -- the raised value less the same without raising
 unfoldable pub margin : Sum → List ℤ → List ℕ → ℕ
-margin s rs ts = size s (raisedBy ts rs) - size s (unsigned rs)
+margin s rs ts = size s (raisedBy rs ts) - size s (unsigned rs)
 
 -- each true number is within its tolerance of its reading
 pub data Within : List ℤ → List ℤ → List ℕ → Type 0 where

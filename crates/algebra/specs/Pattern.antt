@@ -1,4 +1,5 @@
 -- A power pattern is the list of its exponents, in the variables' order. Nothing here fixes how many variables there are.
+-- (A `let` in a definition changes nothing: the checker computes what it binds only where it is needed.)
 use mathlib.Core.Bool.{Bool, true, false, _&&_}
 use mathlib.Core.List.{List, [], _∷_}
 use Prim.Native.Nat.{ℕ, suc, _+_, _-_, compare, Ordering, Ordering·lt, Ordering·eq, Ordering·gt}
@@ -23,7 +24,7 @@ unfoldable pub degree : Pattern → ℕ
 degree [] = 0
 degree (e ∷ p) = e + degree p
 
--- the power of variable v, and the pattern with one more of it, one less of it, and none
+-- the power of variable v, and the pattern with one more of it, with one less (0 stays 0), and with none
 abbrev pub exponent : ℕ → Pattern → ℕ
 exponent v p = getD p v 0
 
@@ -51,7 +52,7 @@ thenBy Ordering·lt o = Ordering·lt
 thenBy Ordering·eq o = o
 thenBy Ordering·gt o = Ordering·gt
 
--- the larger power of a first, at equal powers the larger power of b, and so on
+-- the larger power of a first, at equal powers the larger power of b, and so on (patterns of one sum are equally long)
 unfoldable pub byPowers : Pattern → Pattern → Ordering
 byPowers [] [] = Ordering·eq
 byPowers [] (f ∷ q) = Ordering·gt

@@ -8,7 +8,7 @@ use Rattle.algebra.specs.Collect.{collect, spread}
 use Rattle.algebra.specs.Arithmetic.{unit, row, _⊗_, power, powerSpread}
 use Rattle.algebra.specs.Value.{value}
 
--- each term's coefficient, times its other exponents, times its factor: one row for each term
+-- a row for each term: the term with only its other exponents, times each term of its factor
 unfoldable pub rows : (Pattern → Pattern) → (Pattern → Sum) → Sum → List Term
 rows other factor [] = []
 rows other factor (t ∷ s) = row (term (t .coefficient) (other (t .pattern))) (factor (t .pattern)) ++ rows other factor s
@@ -66,12 +66,15 @@ putFactor n (put S ∷ ws) (e ∷ p) = power n S e ⊗ putFactor n ws p
 unfoldable pub putAll : ℕ → List Put → Sum → Sum
 putAll n ws s = collect (rows (others ws) (putFactor n ws) s)
 
--- the values that the variables then stand for: a kept variable's own value in y, else that of the sum put for it, at x
-unfoldable pub replacedBy : List Put → List ℤ → List ℤ → List ℤ
-replacedBy [] x y = y
-replacedBy (w ∷ ws) x [] = []
-replacedBy (kept ∷ ws) x (a ∷ y) = a ∷ replacedBy ws x y
-replacedBy (put S ∷ ws) x (a ∷ y) = value S x ∷ replacedBy ws x y
+-- the values that the variables with the values x then stand for: its own if it is kept, else that of the sum put for it. y is the rest of x
+unfoldable pub replacedFrom : List ℤ → List Put → List ℤ → List ℤ
+replacedFrom x [] y = y
+replacedFrom x (w ∷ ws) [] = []
+replacedFrom x (kept ∷ ws) (a ∷ y) = a ∷ replacedFrom x ws y
+replacedFrom x (put S ∷ ws) (a ∷ y) = value S x ∷ replacedFrom x ws y
+
+abbrev pub replaced : List Put → List ℤ → List ℤ
+replaced ws x = replacedFrom x ws x
 
 -- S is put for v, and all other variables are kept
 unfoldable pub onlyPut : ℕ → Sum → List Put

@@ -41,7 +41,7 @@ unfoldable pub splitNumber : (ℕ → ℕ → ℤ) → ℕ → ℕ → ℤ
 splitNumber f zero j = f zero j
 splitNumber f (suc i) j = f (suc i) j +ℤ splitNumber f i (suc j)
 
--- f p q added up over all patterns p and q whose product is r
+-- f p q added up over all patterns p and q, each as long as r, whose product is r
 unfoldable pub splitPattern : (Pattern → Pattern → ℤ) → Pattern → ℤ
 splitPattern f [] = f [] []
 splitPattern f (e ∷ r) = splitNumber (λ i j. splitPattern (λ p q. f (i ∷ p) (j ∷ q)) r) e 0

@@ -19,8 +19,8 @@ pub struct Step {
     pub pattern: Pattern,
 }
 
-// Eight exponents, a byte each, a in the highest byte. The degree stays below 255, so no byte runs
-// over into the next, and whole words can be added, compared and divided.
+// Eight exponents, a byte each, a in the highest byte. A valid pattern's degree is at most 60, so no
+// byte runs over into the next, and whole words can be added, compared and divided.
 pub struct Pattern(pub u64);
 
 impl Pattern {
@@ -29,6 +29,11 @@ impl Pattern {
     pub const LARGEST_DEGREE: u64 = 60;
 
     pub const EMPTY: Pattern = Pattern(0);
+
+    // The layout: a field of eight bits for each variable.
+    const FIELD_BITS: u64 = 8;
+
+    const FIELD_SIZE: u64 = 256;
 
     // The next three tie the constants to the definitions.
     pub fn variables() -> u64
@@ -92,12 +97,12 @@ impl Pattern {
         Standing::Same
     }
 
-    // The bits below the byte of variable v.
+    // The bits below the field of variable v.
     fn bits_below(v: u64) -> u64
         requires { ⌜ v < variables ⌝ }
         ensures { λ r. ⌜ r ≡ 8 * (variables - 1 - v) ⌝ }
     {
-        8 * (Pattern::VARIABLES - 1 - v)
+        Pattern::FIELD_BITS * (Pattern::VARIABLES - 1 - v)
     }
 
     // The power of variable v. It asks for no valid pattern: any word has eight bytes.
@@ -105,7 +110,7 @@ impl Pattern {
         requires { ⌜ v < variables ⌝ }
         ensures { λ r. ⌜ r ≡ exponent v (exponents (self .0)) ⌝ }
     {
-        (self.0 >> Pattern::bits_below(v)) % 256
+        (self.0 >> Pattern::bits_below(v)) % Pattern::FIELD_SIZE
     }
 
     // A pattern without v is its own step: the power 0 says that its term goes.

@@ -99,10 +99,12 @@ sum-eq [] [] h = refl
 sum-eq [] (u ∷ r) h = absurd h
 sum-eq (t ∷ s) [] h = absurd h
 sum-eq (t ∷ s) (u ∷ r) h =
-    let rest = and-r (sameNumber (t .coefficient) (u .coefficient)) (same (t .pattern) (u .pattern) && sameSum s r) h in
-    ap₂ _∷_
-    (ap₂ term (number-eq (t .coefficient) (u .coefficient) (and-l (sameNumber (t .coefficient) (u .coefficient)) _ h)) (same-eq (t .pattern) (u .pattern) (and-l (same (t .pattern) (u .pattern)) (sameSum s r) rest)))
-    (sum-eq s r (and-r (same (t .pattern) (u .pattern)) (sameSum s r) rest))
+    let numbers = sameNumber (t .coefficient) (u .coefficient) in
+    let patterns = same (t .pattern) (u .pattern) in
+    let rest = and-r numbers (patterns && sameSum s r) h in
+    let c = number-eq (t .coefficient) (u .coefficient) (and-l numbers (patterns && sameSum s r) h) in
+    let p = same-eq (t .pattern) (u .pattern) (and-l patterns (sameSum s r) rest) in
+    ap₂ _∷_ (ap₂ term c p) (sum-eq s r (and-r patterns (sameSum s r) rest))
 
 unfoldable pub agree : Formula → Formula → Bool
 unfolding sumOf sameSum

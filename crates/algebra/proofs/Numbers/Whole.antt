@@ -5,7 +5,7 @@ use mathlib.Core.Bool.{Bool, true, false, not, cond}
 use Prim.Native.Nat.{ℕ, zero, suc, _+_, _*_, _-_, _<_, _≤_}
 use native.Mathlib.Omega.{arith}
 use lib.Dec.{T, ltb, ltb→lt, nltb→le}
-use lib.IntN.{ℤ, pos, negsuc, subℕ, negℤ, _+ℤ_, _*ℤ_, +ℤ-comm, +ℤ-assoc, +ℤ-idl, +ℤ-idr, +ℤ-invl, *ℤ-comm, zero-*ℤ, *ℤ-zero}
+use lib.IntN.{ℤ, pos, negsuc, subℕ, negℤ, _+ℤ_, _*ℤ_, +ℤ-comm, +ℤ-assoc, +ℤ-idl, +ℤ-invl, *ℤ-comm}
 
 -- a number is above less below, and one of the two is 0
 abbrev above : ℤ → ℕ
@@ -128,6 +128,3 @@ pub +ℤ-cancel : (a b c : ℤ) → a +ℤ b ≡ a +ℤ c → b ≡ c
   where
     back : (z : ℤ) → negℤ a +ℤ (a +ℤ z) ≡ z
     back z = sym (+ℤ-assoc (negℤ a) a z) ∙ ap (λ w. w +ℤ z) (+ℤ-invl a) ∙ +ℤ-idl z
-
--- for rearrangements: `simp ring` multiplies out and sorts both sides alike
-pub ruleset ring = (+ℤ-assoc, +ℤ-comm, +ℤ-left-comm, *ℤ-assoc, *ℤ-comm, *ℤ-left-comm, *ℤ-+ℤ, +ℤ-*ℤ, +ℤ-idl, +ℤ-idr, one-*ℤ, *ℤ-oner, zero-*ℤ, *ℤ-zero)

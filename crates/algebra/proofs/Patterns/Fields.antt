@@ -10,7 +10,7 @@ use lib.ListN.{length, length-set}
 use Rattle.algebra.specs.Pattern.{Pattern, emptyPattern, times, degree, exponent, lowered, thenBy, byPowers, order}
 use Rattle.algebra.specs.Word.{wordOf, fieldsOf}
 use Rattle.algebra.proofs.Numbers.Compare.{Says, compare-says, compare-is, compare-add}
-use Rattle.algebra.proofs.Patterns.Laws.{times-length, degree-times}
+use Rattle.algebra.proofs.Patterns.Laws.{times-length}
 
 -- ---- A word and its fields.
 
@@ -99,10 +99,8 @@ word-times B (e ∷ p) (f ∷ q) h =
     omega (arith, word-times B p q k, both, ap (λ (i : ℕ). f * B ^ i) k)
 
 -- the fields of two words added are the exponents added, while no field runs over
-pub fields-times : (B : ℕ) (p q : Pattern) → length p ≡ length q → degree p + degree q < B
-    → fieldsOf B (length p) (wordOf B p + wordOf B q) ≡ times p q
-fields-times B p q h k =
-    rw (word-times B p q h, times-length (length p) p q refl (sym h)) at (fields-word {p = times p q} (omega arith) (below-degree B (times p q) (omega (arith, degree-times p q))))
+pub fields-times : (B : ℕ) (p q : Pattern) → length p ≡ length q → 0 < B → Below B (times p q) → fieldsOf B (length p) (wordOf B p + wordOf B q) ≡ times p q
+fields-times B p q h k low = rw (word-times B p q h, times-length (length p) p q refl (sym h)) at (fields-word {p = times p q} k low)
 
 -- ---- The degree. B leaves 1 when divided by B - 1, and so does each of its powers: the remainder adds the exponents up.
 

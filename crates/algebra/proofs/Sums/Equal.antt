@@ -30,7 +30,7 @@ unfolding onlyIf
 if-plus true c d = refl
 if-plus false c d = refl
 
-if-none : (b : Bool) → onlyIf b (pos 0) ≡ pos 0
+pub if-none : (b : Bool) → onlyIf b (pos 0) ≡ pos 0
 unfolding onlyIf
 if-none true = refl
 if-none false = refl

@@ -74,7 +74,9 @@ Long n p = length p ≡ n
 pub variables-every : (n : ℕ) (s : Sum) → T (inVariables n s) → Every (Long n) s
 unfolding inVariables
 variables-every n [] h = tt
-variables-every n (t ∷ s) h = (eqb→eq (length (t .pattern)) n (and-l (eqb (length (t .pattern)) n) (inVariables n s) h), variables-every n s (and-r (eqb (length (t .pattern)) n) (inVariables n s) h))
+variables-every n (t ∷ s) h =
+    let long = eqb (length (t .pattern)) n in
+    (eqb→eq (length (t .pattern)) n (and-l long (inVariables n s) h), variables-every n s (and-r long (inVariables n s) h))
 
 pub every-variables : (n : ℕ) (s : Sum) → Every (Long n) s → T (inVariables n s)
 unfolding inVariables

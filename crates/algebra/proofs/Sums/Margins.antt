@@ -62,13 +62,13 @@ near-power {a} {b} N (suc e) = rw (pow-suc a e, pow-suc b e) (near-product (near
 near-reading : {x r : ℤ} {t : ℕ} → natAbs (x -ℤ r) ≤ t → Near x r (natAbs r) (natAbs r + t)
 near-reading {r} h = record { apart = omega arith; small = le-refl (natAbs r) }
 
-near-pattern : (p : Pattern) {x r : List ℤ} {t : List ℕ} → Within x r t → Near (patternValue p x) (patternValue p r) (patternSize p (unsigned r)) (patternSize p (raisedBy t r))
+near-pattern : (p : Pattern) {x r : List ℤ} {t : List ℕ} → Within x r t → Near (patternValue p x) (patternValue p r) (patternSize p (unsigned r)) (patternSize p (raisedBy r t))
 unfolding patternValue patternSize unsigned raisedBy
 near-pattern [] w = near-self (pos 1)
 near-pattern (e ∷ p) none = near-self (pos 1)
 near-pattern (e ∷ p) (more h w) = near-product (near-power (near-reading h) e) (near-pattern p w)
 
-near-value : (s : Sum) {x r : List ℤ} {t : List ℕ} → Within x r t → Near (value s x) (value s r) (size s (unsigned r)) (size s (raisedBy t r))
+near-value : (s : Sum) {x r : List ℤ} {t : List ℕ} → Within x r t → Near (value s x) (value s r) (size s (unsigned r)) (size s (raisedBy r t))
 unfolding value total size
 near-value [] w = near-self (pos 0)
 near-value (u ∷ s) w = near-sum (near-product (near-self (u .coefficient)) (near-pattern (u .pattern) w)) (near-value s w)
@@ -85,15 +85,14 @@ unfolding margin
 margin-law s w = omega (arith, near-value s w .apart)
 
 -- the true value itself is at most the raised value
-pub value-raised : (s : Sum) {x r : List ℤ} {t : List ℕ} → Within x r t → natAbs (value s x) ≤ size s (raisedBy t r)
+pub value-raised : (s : Sum) {x r : List ℤ} {t : List ℕ} → Within x r t → natAbs (value s x) ≤ size s (raisedBy r t)
 value-raised s w = near-large (near-value s w)
 
--- the estimate with its margin is at most the raised value
-pub estimate-raised : (s : Sum) {x r : List ℤ} {t : List ℕ} → Within x r t → natAbs (value s r) + margin s r t ≤ size s (raisedBy t r)
-unfolding margin
-estimate-raised s w = let N = near-value s w in omega (arith, N .apart, N .small)
-
 -- nothing is lost in the difference: the plain value and the margin make up the raised value
-pub margin-whole : (s : Sum) (r : List ℤ) (t : List ℕ) → length r ≡ length t → size s (unsigned r) + margin s r t ≡ size s (raisedBy t r)
+pub margin-whole : (s : Sum) (r : List ℤ) (t : List ℕ) → length r ≡ length t → size s (unsigned r) + margin s r t ≡ size s (raisedBy r t)
 unfolding margin
 margin-whole s r t h = omega (arith, near-value s (within-self r t h) .apart)
+
+-- the estimate with its margin is at most the raised value
+pub estimate-raised : (s : Sum) (r : List ℤ) (t : List ℕ) → length r ≡ length t → natAbs (value s r) + margin s r t ≤ size s (raisedBy r t)
+estimate-raised s r t h = omega (arith, margin-whole s r t h, near-value s (within-self r t h) .small)

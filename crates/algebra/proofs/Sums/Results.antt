@@ -1,5 +1,5 @@
 -- What a sum, a product and a power are like: ordered, with their degree, weight and number of terms bounded as document 01 counts them.
-use mathlib.Core.Path.{_≡_, _∙_}
+use mathlib.Core.Path.{_≡_, refl, _∙_}
 use mathlib.Core.Bool.{Bool, true, false}
 use mathlib.Core.List.{List, [], _∷_, _++_}
 use Prim.Native.Nat.{ℕ, zero, suc, _+_, _*_, _^_, max, _≤_, Ordering, Ordering·lt, Ordering·eq, Ordering·gt}
@@ -8,10 +8,11 @@ use native.Mathlib.Nat.{le-refl, le-trans, le-max-left, le-max-right, mul-le-mul
 use lib.Dec.{T}
 use lib.IntN.{ℤ, pos, natAbs}
 use lib.ListN.{length, set, length-set, length-replicate}
-use Rattle.algebra.specs.Pattern.{Pattern, emptyPattern, order}
+use Rattle.algebra.specs.Pattern.{Pattern, emptyPattern, degree, same, order}
 use Rattle.algebra.specs.Sum.{Term, term, Sum, isZero, ahead, inOrder, noZero, ordered, degreeOf, weight}
-use Rattle.algebra.specs.Collect.{place, insert, gather, keep, dropZeros, collect}
+use Rattle.algebra.specs.Collect.{place, insert, gather, keep, dropZeros, collect, occurs, countNew, spread}
 use Rattle.algebra.specs.Arithmetic.{constant, variable, unit, row, pairs, _⊕_, sumSpread, _⊗_, productSpread, power, powerSpread}
+use Rattle.algebra.specs.Value.{total, onlyIf, coefficientIn, coefficient}
 use Rattle.algebra.proofs.Numbers.Absolute.{abs-add, abs-mul}
 use Rattle.algebra.proofs.Patterns.Laws.{times-length, times-degree, empty-degree}
 use Rattle.algebra.proofs.Sums.Every.{append-every, collect-every, pairs-every, Long, UpTo, degree-every, every-degree}
@@ -26,6 +27,10 @@ one-term n c p h k = whole n (term c p ∷ []) (record { strict = unfold inOrder
 pub unit-ordered : (n : ℕ) → T (ordered n (unit n))
 unfolding noZero
 unit-ordered n = one-term n (pos 1) (emptyPattern n) tt (length-replicate n 0)
+
+pub unit-constant : (n : ℕ) → constant n (pos 1) ≡ unit n
+unfolding constant collect gather insert dropZeros keep
+unit-constant n = refl
 
 pub variable-ordered : (n v : ℕ) → T (ordered n (variable n v))
 unfolding variable noZero
@@ -70,6 +75,22 @@ unfolding power
 power-degree n s zero = unfold degreeOf in omega (arith, empty-degree n)
 power-degree n s (suc zero) = omega arith
 power-degree n s (suc (suc e)) = omega (arith, product-degree (power n s (suc e)) s, power-degree n s (suc e))
+
+pub constant-degree : (n : ℕ) (c : ℤ) → degreeOf (constant n c) ≡ 0
+unfolding constant
+constant-degree n c = omega (arith, every-degree 0 (collect (term c (emptyPattern n) ∷ [])) (collect-every (UpTo 0) (term c (emptyPattern n) ∷ []) (omega (arith, empty-degree n), tt)))
+
+pub variable-degree : (n v : ℕ) → degreeOf (variable n v) ≤ 1
+unfolding variable
+variable-degree n v = every-degree 1 (term (pos 1) (set (emptyPattern n) v 1) ∷ []) (one-degree n v, tt)
+  where
+    one-degree : (n v : ℕ) → degree (set (emptyPattern n) v 1) ≤ 1
+    one-degree zero v = unfold degree in omega arith
+    one-degree (suc n) zero = unfold degree in omega (arith, empty-degree n)
+    one-degree (suc n) (suc v) = next (one-degree n v)
+      where
+        next : degree (set (emptyPattern n) v 1) ≤ 1 → degree (set (emptyPattern (suc n)) (suc v) 1) ≤ 1
+        next h = unfold degree in omega arith
 
 -- ---- Weight.
 
@@ -119,6 +140,24 @@ unfolding pairs weight
 pairs-weight [] t = omega arith
 pairs-weight (u ∷ s) t = omega (arith, append-weight (row u t) (pairs s t), row-weight u t, pairs-weight s t)
 
+pub constant-weight : (n : ℕ) (c : ℤ) → weight (constant n c) ≤ natAbs c
+unfolding constant
+constant-weight n c = unfold weight in omega (arith, collect-weight (term c (emptyPattern n) ∷ []))
+
+pub variable-weight : (n v : ℕ) → weight (variable n v) ≡ 1
+unfolding variable weight
+variable-weight n v = refl
+
+-- no coefficient is larger than the weight
+pub coefficient-weight : (l : List Term) (r : Pattern) → natAbs (coefficient l r) ≤ weight l
+unfolding coefficient total weight
+coefficient-weight [] r = omega arith
+coefficient-weight (t ∷ l) r = omega (arith, abs-add (coefficientIn r t) (coefficient l r), only (same r (t .pattern)) (t .coefficient), coefficient-weight l r)
+  where
+    only : (b : Bool) (c : ℤ) → natAbs (onlyIf b c) ≤ natAbs c
+    only true c = unfold onlyIf in omega arith
+    only false c = unfold onlyIf in omega arith
+
 pub sum-weight : (s t : Sum) → weight (s ⊕ t) ≤ weight s + weight t
 unfolding _⊕_
 sum-weight s t = omega (arith, collect-weight (s ++ t), append-weight s t)
@@ -135,6 +174,10 @@ power-weight n s (suc (suc e)) = rw pow-suc (le-trans (product-weight (power n s
 
 -- ---- Number of terms.
 
+pub constant-length : (n : ℕ) (c : ℤ) → length (constant n c) ≤ 1
+unfolding constant spread occurs countNew
+constant-length n c = collect-length (term c (emptyPattern n) ∷ [])
+
 pub sum-length : (s t : Sum) → length (s ⊕ t) ≤ sumSpread s t
 unfolding _⊕_ sumSpread
 sum-length s t = collect-length (s ++ t)
@@ -144,6 +187,8 @@ unfolding _⊗_ productSpread
 product-length s t = collect-length (pairs s t)
 
 -- exponents 0 and 1 form no product: 1 has one term, and the base its own
-pub power-length : (n : ℕ) (s : Sum) (e : ℕ) → length (power n s (suc (suc e))) ≤ powerSpread n s (suc (suc e))
+pub power-length : (n : ℕ) (s : Sum) (e : ℕ) → length (power n s e) ≤ max (max 1 (length s)) (powerSpread n s e)
 unfolding power powerSpread
-power-length n s e = le-trans (product-length (power n s (suc e)) s) (le-max-right (powerSpread n s (suc e)) (productSpread (power n s (suc e)) s))
+power-length n s zero = omega arith
+power-length n s (suc zero) = omega arith
+power-length n s (suc (suc e)) = omega (arith, product-length (power n s (suc e)) s)

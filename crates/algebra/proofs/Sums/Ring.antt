@@ -16,6 +16,14 @@ use Rattle.algebra.proofs.Sums.Every.{Every, Long}
 use Rattle.algebra.proofs.Sums.Ordered.{parts, collect-fixed}
 use Rattle.algebra.proofs.Sums.Equal.{collect-equal}
 
+-- ---- Terms.
+
+pub term-comm : (u t : Term) → timesTerm u t ≡ timesTerm t u
+term-comm u t = ap₂ term (*ℤ-comm (u .coefficient) (t .coefficient)) (times-comm (u .pattern) (t .pattern))
+
+term-assoc : (a b c : Term) → timesTerm (timesTerm a b) c ≡ timesTerm a (timesTerm b c)
+term-assoc a b c = ap₂ term (*ℤ-assoc (a .coefficient) (b .coefficient) (c .coefficient)) (times-assoc (a .pattern) (b .pattern) (c .pattern))
+
 -- ---- A product's total, over the pairs; it is additive in each operand.
 
 module _ (f : Term → ℤ) (A : Additive f) where
@@ -30,8 +38,8 @@ module _ (f : Term → ℤ) (A : Additive f) where
 module _ (f : Term → ℤ) (A : Additive f) where
   pub left-additive : (t : Sum) → Additive (λ u. total (λ v. f (timesTerm u v)) t)
   left-additive t = record {
-    plus = λ c d p. total-ext (λ v. ap (λ z. f (term z (times p (v .pattern)))) (+ℤ-*ℤ c d (v .coefficient)) ∙ A .plus (c *ℤ v .coefficient) (d *ℤ v .coefficient) (times p (v .pattern))) t ∙ total-plus _ _ t;
-    none = λ p. total-ext (λ v. ap (λ z. f (term z (times p (v .pattern)))) (zero-*ℤ (v .coefficient)) ∙ A .none (times p (v .pattern))) t ∙ total-none t;
+    plus = λ c d p. total-ext (λ v. ap (λ z. f (term z (times p (v .pattern)))) (+ℤ-*ℤ c d (v .coefficient)) ∙ A .plus _ _ _) t ∙ total-plus _ _ t;
+    none = λ p. total-ext (λ v. ap (λ z. f (term z (times p (v .pattern)))) (zero-*ℤ (v .coefficient)) ∙ A .none _) t ∙ total-none t;
   }
 
   pub right-additive : (u : Term) → Additive (λ v. f (timesTerm u v))
@@ -43,15 +51,12 @@ module _ (f : Term → ℤ) (A : Additive f) where
   comm-total : (s t : Sum) → total f (pairs s t) ≡ total f (pairs t s)
   comm-total s t =
       pairs-total f s t ∙ total-swap (λ u v. f (timesTerm u v)) s t
-      ∙ total-ext (λ v. total-ext (λ u. ap₂ (λ c p. f (term c p)) (*ℤ-comm (u .coefficient) (v .coefficient)) (times-comm (u .pattern) (v .pattern))) s) t ∙ sym (pairs-total f t s)
+      ∙ total-ext (λ v. total-ext (λ u. ap f (term-comm u v)) s) t ∙ sym (pairs-total f t s)
 
   assoc-total : (s t u : Sum) → total f (pairs (s ⊗ t) u) ≡ total f (pairs s (t ⊗ u))
   assoc-total s t u =
       pairs-total f (s ⊗ t) u ∙ product-total _ (left-additive u) s t
-      ∙ total-ext (λ a. total-ext (λ b. total-ext (regroup a b) u) t ∙ sym (product-total _ (right-additive a) t u)) s ∙ sym (pairs-total f s (t ⊗ u))
-    where
-      regroup : (a b c : Term) → f (timesTerm (timesTerm a b) c) ≡ f (timesTerm a (timesTerm b c))
-      regroup a b c = ap₂ (λ z p. f (term z p)) (*ℤ-assoc (a .coefficient) (b .coefficient) (c .coefficient)) (times-assoc (a .pattern) (b .pattern) (c .pattern))
+      ∙ total-ext (λ a. total-ext (λ b. total-ext (λ c. ap f (term-assoc a b c)) u) t ∙ sym (product-total _ (right-additive a) t u)) s ∙ sym (pairs-total f s (t ⊗ u))
 
   over-total : (s t u : Sum) → total f (pairs s (t ⊕ u)) ≡ total f ((s ⊗ t) ++ (s ⊗ u))
   over-total s t u =

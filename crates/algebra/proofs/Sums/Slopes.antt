@@ -23,8 +23,8 @@ use Rattle.algebra.proofs.Sums.Total.{Additive, total-ext, total-map, t
 use Rattle.algebra.proofs.Sums.Every.{Every, Long, UpTo, degree-every, every-degree, collect-every}
 use Rattle.algebra.proofs.Sums.Ordered.{parts, collect-ordered}
 use Rattle.algebra.proofs.Sums.Occurs.{collect-length, spread-length}
-use Rattle.algebra.proofs.Sums.Equal.{coefficient-additive, collect-equal}
-use Rattle.algebra.proofs.Sums.Ring.{sum-total, product-total, left-additive, right-additive, sum-zero, zero-product}
+use Rattle.algebra.proofs.Sums.Equal.{if-none, coefficient-additive, collect-equal}
+use Rattle.algebra.proofs.Sums.Ring.{term-comm, sum-total, product-total, left-additive, right-additive, sum-zero, zero-product}
 use Rattle.algebra.proofs.Sums.Results.{product-ordered, constant-ordered, collect-weight}
 
 -- ---- Totals.
@@ -42,38 +42,35 @@ module _ (v : ℕ) (f : Term → ℤ) (A : Additive f) where
 
 -- ---- Coefficients.
 
-slope-here : (v : ℕ) (t : Term) (r : Pattern) → v < length r → coefficientIn r (slopeTerm v t) ≡ pos (suc (exponent v r)) *ℤ coefficientIn (raised v r) t
-unfolding onlyIf
-slope-here v t r h = go (same (raised v r) (t .pattern)) refl
-  where
-    -- where the pattern is not r with one power more, its slope has not the pattern r, or it has no power to take
-    other : (n : ℕ) → exponent v (t .pattern) ≡ n → same (raised v r) (t .pattern) ≡ false → onlyIf (same r (lowered v (t .pattern))) (t .coefficient *ℤ pos (exponent v (t .pattern))) ≡ pos 0
-    other zero z k = ap (λ m. onlyIf (same r (lowered v (t .pattern))) (t .coefficient *ℤ pos m)) z ∙ ap (onlyIf (same r (lowered v (t .pattern)))) (*ℤ-zero (t .coefficient)) ∙ nothing (same r (lowered v (t .pattern)))
-      where
-        nothing : (b : Bool) → onlyIf b (pos 0) ≡ pos 0
-        nothing true = refl
-        nothing false = refl
-    other (suc n) z k = ap (λ b. onlyIf b (t .coefficient *ℤ pos (exponent v (t .pattern)))) (false-is (same r (lowered v (t .pattern))) never)
-      where
-        never : T (same r (lowered v (t .pattern))) → ⊥
-        never m =
-            let w : raised v r ≡ t .pattern = ap (raised v) (same-eq r (lowered v (t .pattern)) m) ∙ raised-lowered v (t .pattern) (omega arith) in
-            let y : T (same (raised v r) (t .pattern)) = rw w (same-self (t .pattern)) in
-            rw k at y
+module _ (v : ℕ) (c : ℤ) (p r : Pattern) where
+  -- where p is not r with one power more, its slope has not the pattern r, or p has no power to take
+  slope-other : (n : ℕ) → exponent v p ≡ n → same (raised v r) p ≡ false → onlyIf (same r (lowered v p)) (c *ℤ pos (exponent v p)) ≡ pos 0
+  unfolding onlyIf
+  slope-other zero e k = ap (λ m. onlyIf (same r (lowered v p)) (c *ℤ pos m)) e ∙ ap (onlyIf (same r (lowered v p))) (*ℤ-zero c) ∙ if-none (same r (lowered v p))
+  slope-other (suc n) e k = ap (λ b. onlyIf b (c *ℤ pos (exponent v p))) (false-is (same r (lowered v p)) never)
+    where
+      never : T (same r (lowered v p)) → ⊥
+      never m =
+          let w : raised v r ≡ p = ap (raised v) (same-eq r (lowered v p) m) ∙ raised-lowered v p (omega arith) in
+          let y : T (same (raised v r) p) = rw w (same-self p) in
+          rw k at y
 
-    go : (b : Bool) → same (raised v r) (t .pattern) ≡ b → coefficientIn r (slopeTerm v t) ≡ pos (suc (exponent v r)) *ℤ onlyIf b (t .coefficient)
-    go false k = other (exponent v (t .pattern)) refl k ∙ sym (*ℤ-zero (pos (suc (exponent v r))))
-    go true k =
-        let w : raised v r ≡ t .pattern = same-eq (raised v r) (t .pattern) (rw k tt) in
-        ap (λ p. onlyIf (same r (lowered v p)) (t .coefficient *ℤ pos (exponent v p))) (sym w)
-        ∙ ap₂ (λ p n. onlyIf (same r p) (t .coefficient *ℤ pos n)) (lowered-raised v r h) (raised-exponent v r h)
-        ∙ ap (λ b. onlyIf b (t .coefficient *ℤ pos (suc (exponent v r)))) (true-is (same r r) (same-self r))
-        ∙ *ℤ-comm (t .coefficient) (pos (suc (exponent v r)))
+  slope-here : v < length r → coefficientIn r (slopeTerm v (term c p)) ≡ pos (suc (exponent v r)) *ℤ coefficientIn (raised v r) (term c p)
+  slope-here h = go (same (raised v r) p) refl
+    where
+      go : (b : Bool) → same (raised v r) p ≡ b → coefficientIn r (slopeTerm v (term c p)) ≡ pos (suc (exponent v r)) *ℤ onlyIf b c
+      go false k = slope-other (exponent v p) refl k ∙ sym (unfold onlyIf in *ℤ-zero (pos (suc (exponent v r))))
+      go true k =
+          let w : raised v r ≡ p = same-eq (raised v r) p (rw k tt) in
+          ap (λ q. onlyIf (same r (lowered v q)) (c *ℤ pos (exponent v q))) (sym w)
+          ∙ ap₂ (λ q n. onlyIf (same r q) (c *ℤ pos n)) (lowered-raised v r h) (raised-exponent v r h)
+          ∙ ap (λ b. onlyIf b (c *ℤ pos (suc (exponent v r)))) (true-is (same r r) (same-self r))
+          ∙ unfold onlyIf in *ℤ-comm c (pos (suc (exponent v r)))
 
 pub slope-coefficient : (v : ℕ) (s : Sum) (r : Pattern) → v < length r → coefficient (slope v s) r ≡ pos (suc (exponent v r)) *ℤ coefficient s (raised v r)
 unfolding coefficient
 slope-coefficient v s r h =
-    slope-total v (coefficientIn r) (coefficient-additive r) s ∙ total-ext (λ t. slope-here v t r h) s ∙ total-times (pos (suc (exponent v r))) (coefficientIn (raised v r)) s
+    slope-total v (coefficientIn r) (coefficient-additive r) s ∙ total-ext (λ t. slope-here v (t .coefficient) (t .pattern) r h) s ∙ total-times (pos (suc (exponent v r))) (coefficientIn (raised v r)) s
 
 -- ---- Linear, and the product rule.
 
@@ -86,30 +83,28 @@ slope-sum v s t = unfold slope _⊕_ in collect-equal (map (slopeTerm v) (collec
         ∙ sym (total-append f (slope v s) (slope v t) ∙ ap₂ _+ℤ_ (slope-total v f A s) (slope-total v f A t))
 
 module _ (v : ℕ) (f : Term → ℤ) (A : Additive f) where
-  -- the slope of a product of two terms, as far as f sees it
-  first : (u t : Term) (n : ℕ) → exponent v (u .pattern) ≡ n
-      → f (term ((u .coefficient *ℤ t .coefficient) *ℤ pos n) (lowered v (times (u .pattern) (t .pattern)))) ≡ f (timesTerm (slopeTerm v u) t)
-  first u t zero e =
-      ap (λ z. f (term z (lowered v (times (u .pattern) (t .pattern))))) (*ℤ-zero (u .coefficient *ℤ t .coefficient)) ∙ A .none _
-      ∙ sym (ap (λ z. f (term z (times (lowered v (u .pattern)) (t .pattern)))) (ap (λ m. (u .coefficient *ℤ pos m) *ℤ t .coefficient) e ∙ ap (λ z. z *ℤ t .coefficient) (*ℤ-zero (u .coefficient)) ∙ zero-*ℤ (t .coefficient)) ∙ A .none _)
-  first u t (suc n) e =
-      ap₂ (λ z p. f (term z p)) (move (u .coefficient) (t .coefficient) (pos (suc n)) ∙ ap (λ m. (u .coefficient *ℤ pos m) *ℤ t .coefficient) (sym e))
-      (lowered-times v (u .pattern) (t .pattern) (omega arith))
+  -- the first factor's part in the slope of a product of two terms, as far as f sees it
+  first : (a b : ℤ) (p q : Pattern) (n : ℕ) → exponent v p ≡ n → f (term ((a *ℤ b) *ℤ pos n) (lowered v (times p q))) ≡ f (term ((a *ℤ pos n) *ℤ b) (times (lowered v p) q))
+  first a b p q zero e = nothing (*ℤ-zero (a *ℤ b)) ∙ sym (nothing (ap (λ z. z *ℤ b) (*ℤ-zero a) ∙ zero-*ℤ b))
+    where
+      nothing : {c : ℤ} {r : Pattern} → c ≡ pos 0 → f (term c r) ≡ pos 0
+      nothing {r} h = ap (λ z. f (term z r)) h ∙ A .none r
+  first a b p q (suc n) e = ap₂ (λ z r. f (term z r)) (move a b (pos (suc n))) (lowered-times v p q (omega arith))
     where
       move : (a b c : ℤ) → (a *ℤ b) *ℤ c ≡ (a *ℤ c) *ℤ b
       move a b c = *ℤ-assoc a b c ∙ ap (λ z. a *ℤ z) (*ℤ-comm b c) ∙ sym (*ℤ-assoc a c b)
 
-  turned : (u t : Term) → timesTerm u t ≡ timesTerm t u
-  turned u t = ap₂ term (*ℤ-comm (u .coefficient) (t .coefficient)) (times-comm (u .pattern) (t .pattern))
+  rule : (a b : ℤ) (p q : Pattern) → f (slopeTerm v (timesTerm (term a p) (term b q)))
+      ≡ f (timesTerm (slopeTerm v (term a p)) (term b q)) +ℤ f (timesTerm (slopeTerm v (term b q)) (term a p))
+  rule a b p q =
+      let m = exponent v p in
+      let n = exponent v q in
+      ap (λ z. f (term z (lowered v (times p q)))) (ap (λ k. (a *ℤ b) *ℤ pos k) (exponent-times v p q) ∙ *ℤ-+ℤ (a *ℤ b) (pos m) (pos n))
+      ∙ A .plus ((a *ℤ b) *ℤ pos m) ((a *ℤ b) *ℤ pos n) (lowered v (times p q))
+      ∙ ap₂ _+ℤ_ (first a b p q m refl) (ap₂ (λ c r. f (term (c *ℤ pos n) (lowered v r))) (*ℤ-comm a b) (times-comm p q) ∙ first b a q p n refl)
 
   pair-rule : (u t : Term) → f (slopeTerm v (timesTerm u t)) ≡ f (timesTerm (slopeTerm v u) t) +ℤ f (timesTerm u (slopeTerm v t))
-  pair-rule u t =
-      ap (λ z. f (term z (lowered v (times (u .pattern) (t .pattern)))))
-      (ap (λ m. (u .coefficient *ℤ t .coefficient) *ℤ pos m) (exponent-times v (u .pattern) (t .pattern)) ∙ *ℤ-+ℤ (u .coefficient *ℤ t .coefficient) (pos (exponent v (u .pattern))) (pos (exponent v (t .pattern))))
-      ∙ A .plus ((u .coefficient *ℤ t .coefficient) *ℤ pos (exponent v (u .pattern))) ((u .coefficient *ℤ t .coefficient) *ℤ pos (exponent v (t .pattern))) _
-      ∙ ap₂ _+ℤ_ (first u t (exponent v (u .pattern)) refl)
-      (ap₂ (λ c p. f (term (c *ℤ pos (exponent v (t .pattern))) (lowered v p))) (*ℤ-comm (u .coefficient) (t .coefficient)) (times-comm (u .pattern) (t .pattern))
-      ∙ first t u (exponent v (t .pattern)) refl ∙ ap f (turned (slopeTerm v t) u))
+  pair-rule u t = rule (u .coefficient) (t .coefficient) (u .pattern) (t .pattern) ∙ ap (λ w. f (timesTerm (slopeTerm v u) t) +ℤ f w) (term-comm (slopeTerm v t) u)
 
   rule-total : (s t : Sum) → total f (slope v (s ⊗ t)) ≡ total f (slope v s ⊗ t) +ℤ total f (s ⊗ slope v t)
   rule-total s t =

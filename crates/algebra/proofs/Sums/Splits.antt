@@ -10,7 +10,7 @@ use lib.IntN.{ℤ, pos, _+ℤ_, _*ℤ_, +ℤ-idl, +ℤ-idr, *ℤ-comm, *ℤ-zero
 use lib.ListN.{length}
 use Rattle.algebra.specs.Pattern.{Pattern, times, same}
 use Rattle.algebra.specs.Sum.{Term, Sum, inVariables, ordered}
-use Rattle.algebra.specs.Arithmetic.{_⊗_, power}
+use Rattle.algebra.specs.Arithmetic.{timesTerm, _⊗_, power}
 use Rattle.algebra.specs.Value.{total, onlyIf, coefficientIn, coefficient, splitNumber, splitPattern}
 use Rattle.algebra.proofs.Numbers.Whole.{+ℤ-mix}
 use Rattle.algebra.proofs.Sums.Total.{total-ext, total-times}
@@ -160,11 +160,17 @@ both s t p q =
 
 pub product-coefficient : (n : ℕ) (s t : Sum) → T (inVariables n s) → T (inVariables n t) → (r : Pattern)
     → coefficient (s ⊗ t) r ≡ splitPattern (λ p q. coefficient s p *ℤ coefficient t q) r
-product-coefficient n s t h k r = sym
+product-coefficient n s t h k r =
+    sym
     ((λ i. splitPattern (λ p q. both s t p q i) r)
     ∙ pattern-total (λ u p q. total (λ v. coefficientIn p u *ℤ coefficientIn q v) t) s r
-    ∙ every-total n (λ u hu. pattern-total (λ v p q. coefficientIn p u *ℤ coefficientIn q v) t r ∙ every-total n (λ v hv. pattern-split (u .pattern) (v .pattern) (u .coefficient) (v .coefficient) r (hu ∙ sym hv)) t (variables-every n t k)) s (variables-every n s h)
+    ∙ every-total n (λ u hu. one-row u hu) s (variables-every n s h)
     ∙ sym (unfold coefficient in product-total (coefficientIn r) (coefficient-additive r) s t))
+  where
+    one-row : (u : Term) → length (u .pattern) ≡ n → splitPattern (λ p q. total (λ v. coefficientIn p u *ℤ coefficientIn q v) t) r ≡ total (λ v. coefficientIn r (timesTerm u v)) t
+    one-row u hu =
+        pattern-total (λ v p q. coefficientIn p u *ℤ coefficientIn q v) t r
+        ∙ every-total n (λ v hv. pattern-split (u .pattern) (v .pattern) (u .coefficient) (v .coefficient) r (hu ∙ sym hv)) t (variables-every n t k)
 
 pub power-coefficient : (n : ℕ) (s : Sum) (e : ℕ) → T (ordered n s) → (r : Pattern)
     → coefficient (power n s (suc e)) r ≡ splitPattern (λ p q. coefficient (power n s e) p *ℤ coefficient s q) r

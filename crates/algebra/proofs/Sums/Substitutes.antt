@@ -12,7 +12,7 @@ use Rattle.algebra.specs.Sum.{term, Sum, ordered, degreeOf, weight}
 use Rattle.algebra.specs.Collect.{collect, spread}
 use Rattle.algebra.specs.Arithmetic.{unit, row, power}
 use Rattle.algebra.specs.Value.{total, patternValue, value}
-use Rattle.algebra.specs.Substitute.{rows, pairFactor, pairRows, substitute, pairDegree, pairWeight, pairSpread, Put, kept, put, others, putFactor, putAll, replacedBy, onlyPut}
+use Rattle.algebra.specs.Substitute.{rows, pairFactor, pairRows, substitute, pairDegree, pairWeight, pairSpread, Put, kept, put, others, putFactor, putAll, replacedFrom, replaced, onlyPut}
 use Rattle.algebra.proofs.Numbers.Whole.{*ℤ-assoc, one-*ℤ, *ℤ-oner, *ℤ-left-comm}
 use Rattle.algebra.proofs.Patterns.Laws.{times-length, times-degree}
 use Rattle.algebra.proofs.Sums.Every.{Every, every-map, append-every, collect-every, row-every, Long, UpTo, degree-every, every-degree}
@@ -37,8 +37,8 @@ rows-value other factor x y h (t ∷ s) =
     ∙ sym (cons-value t s y)
 
 put-pattern : (n : ℕ) (x : List ℤ) (ws : List Put) (p : Pattern) (y : List ℤ) → length ws ≤ length y
-    → patternValue (others ws p) y *ℤ value (putFactor n ws p) x ≡ patternValue p (replacedBy ws x y)
-unfolding others putFactor replacedBy patternValue pow one
+    → patternValue (others ws p) y *ℤ value (putFactor n ws p) x ≡ patternValue p (replacedFrom x ws y)
+unfolding others putFactor replacedFrom patternValue pow one
 put-pattern n x [] p y h = ap (λ z. patternValue p y *ℤ z) (unit-value n x) ∙ *ℤ-oner (patternValue p y)
 put-pattern n x (w ∷ ws) [] y h = ap (λ z. pos 1 *ℤ z) (unit-value n x)
 put-pattern n x (w ∷ ws) (e ∷ p) [] h = absurd (omega arith)
@@ -50,9 +50,9 @@ put-pattern n x (put S ∷ ws) (e ∷ p) (a ∷ y) h =
     ∙ ap (λ z. pow (value S x) e *ℤ z) (put-pattern n x ws p y (omega arith))
 
 -- all at once: the value at the values that the variables then stand for
-pub put-value : (n : ℕ) (ws : List Put) (s : Sum) (x : List ℤ) → length ws ≤ length x → value (putAll n ws s) x ≡ value s (replacedBy ws x x)
+pub put-value : (n : ℕ) (ws : List Put) (s : Sum) (x : List ℤ) → length ws ≤ length x → value (putAll n ws s) x ≡ value s (replaced ws x)
 unfolding putAll
-put-value n ws s x h = collect-value (rows (others ws) (putFactor n ws) s) x ∙ rows-value (others ws) (putFactor n ws) x (replacedBy ws x x) (λ p. put-pattern n x ws p x h) s
+put-value n ws s x h = collect-value (rows (others ws) (putFactor n ws) s) x ∙ rows-value (others ws) (putFactor n ws) x (replaced ws x) (λ p. put-pattern n x ws p x h) s
 
 pair-pattern : (v : ℕ) (z : ℤ) (p : Pattern) (x : List ℤ) → v < length x → patternValue (without v p) x *ℤ pow z (exponent v p) ≡ patternValue p (set x v z)
 unfolding patternValue pow one
@@ -139,11 +139,14 @@ pair-degrees : (n v : ℕ) (S s : Sum) (m : ℕ) → pairDegree v S s ≤ m → 
 unfolding pairDegree rows
 pair-degrees n v S [] m h = tt
 pair-degrees n v S (t ∷ s) m h =
-    append-every (UpTo m) (row (term (t .coefficient) (without v (t .pattern))) (pairFactor n v S (t .pattern))) (rows (without v) (pairFactor n v S) s)
-    (row-every (UpTo (degree (without v (t .pattern)))) (UpTo (exponent v (t .pattern) * degreeOf S)) (UpTo m)
-    (λ p q a b. le-trans (times-degree (degree (without v (t .pattern))) (exponent v (t .pattern) * degreeOf S) p q a b) (le-trans (le-max-left (degree (without v (t .pattern)) + exponent v (t .pattern) * degreeOf S) (pairDegree v S s)) h))
-    (term (t .coefficient) (without v (t .pattern))) (pairFactor n v S (t .pattern)) (le-refl _) (degree-every _ (pairFactor n v S (t .pattern)) (power-degree n S (exponent v (t .pattern)))))
-    (pair-degrees n v S s m (le-trans (le-max-right (degree (without v (t .pattern)) + exponent v (t .pattern) * degreeOf S) (pairDegree v S s)) h))
+    let other = degree (without v (t .pattern)) in
+    let most = exponent v (t .pattern) * degreeOf S in
+    let here = le-trans (le-max-left (other + most) (pairDegree v S s)) h in
+    let u = term (t .coefficient) (without v (t .pattern)) in
+    append-every (UpTo m) (row u (pairFactor n v S (t .pattern))) (rows (without v) (pairFactor n v S) s)
+    (row-every (UpTo other) (UpTo most) (UpTo m) (λ p q a b. le-trans (times-degree other most p q a b) here) u (pairFactor n v S (t .pattern))
+    (le-refl other) (degree-every most (pairFactor n v S (t .pattern)) (power-degree n S (exponent v (t .pattern)))))
+    (pair-degrees n v S s m (le-trans (le-max-right (other + most) (pairDegree v S s)) h))
 
 pub substitute-degree : (n v : ℕ) (S s : Sum) → degreeOf (substitute n v S s) ≤ pairDegree v S s
 unfolding substitute pairRows
