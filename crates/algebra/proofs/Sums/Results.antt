@@ -186,9 +186,12 @@ pub product-length : (s t : Sum) → length (s ⊗ t) ≤ productSpread s t
 unfolding _⊗_ productSpread
 product-length s t = collect-length (pairs s t)
 
--- exponents 0 and 1 form no product: 1 has one term, and the base its own
-pub power-length : (n : ℕ) (s : Sum) (e : ℕ) → length (power n s e) ≤ max (max 1 (length s)) (powerSpread n s e)
+pub power-length : (n : ℕ) (s : Sum) (e : ℕ) → length (power n s (suc (suc e))) ≤ powerSpread n s (suc (suc e))
 unfolding power powerSpread
-power-length n s zero = omega arith
-power-length n s (suc zero) = omega arith
-power-length n s (suc (suc e)) = omega (arith, product-length (power n s (suc e)) s)
+power-length n s e = omega (arith, product-length (power n s (suc e)) s)
+
+-- exponents 0 and 1 form no product: 1 has one term, and the base its own
+pub power-length-any : (n : ℕ) (s : Sum) (e : ℕ) → length (power n s e) ≤ max (max 1 (length s)) (powerSpread n s e)
+power-length-any n s zero = unfold power in omega arith
+power-length-any n s (suc zero) = unfold power in omega arith
+power-length-any n s (suc (suc e)) = omega (arith, power-length n s e)
