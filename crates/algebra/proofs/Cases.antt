@@ -10,7 +10,7 @@ use Rattle.algebra.specs.Limits.{variables, largestWeight}
 use Rattle.algebra.specs.Pattern.{times, degree, same, thenBy, byPowers, order}
 use Rattle.algebra.specs.Sum.{term, Sum, degreeOf, weight}
 use Rattle.algebra.specs.Collect.{place, insert, gather, keep, dropZeros, collect, occurs, countNew, spread}
-use Rattle.algebra.specs.Arithmetic.{constant, variable, row, pairs, _⊕_, sumSpread, _⊗_, productSpread, power, powerSpread}
+use Rattle.algebra.specs.Arithmetic.{integer, variable, row, pairs, _⊕_, sumSpread, _⊗_, productSpread, power, powerSpread}
 use Rattle.algebra.specs.Slope.{slope}
 use Rattle.algebra.specs.Substitute.{rows, pairRows, substitute, pairDegree, pairWeight, largestPower, pairSpread}
 use Rattle.algebra.specs.Value.{total, patternValue, value}
@@ -59,7 +59,7 @@ each (c ∷ cs) h = (says c (and-l (holds c) (hold cs) h), each cs (and-r (holds
 -- ---- Short names for the table. `unfolding computing` opens every definition that it computes with.
 
 computing : ℕ
-unfolding times degree same thenBy byPowers order degreeOf weight place insert gather keep dropZeros collect occurs countNew spread constant variable row pairs _⊕_ sumSpread _⊗_ productSpread power powerSpread slope rows pairRows substitute pairDegree pairWeight largestPower pairSpread total patternValue value patternSize size unsigned raisedBy margin one pow
+unfolding times degree same thenBy byPowers order degreeOf weight place insert gather keep dropZeros collect occurs countNew spread integer variable row pairs _⊕_ sumSpread _⊗_ productSpread power powerSpread slope rows pairRows substitute pairDegree pairWeight largestPower pairSpread total patternValue value patternSize size unsigned raisedBy margin one pow
 computing = 0
 
 x : ℕ → Sum
@@ -76,7 +76,7 @@ b = x 1
 
 number : ℤ → Sum
 unfolding computing
-number n = constant variables n
+number n = integer variables n
 
 infixl 9 _to_
 _to_ : Sum → ℕ → Sum

@@ -7,14 +7,14 @@ use Rattle.algebra.specs.Pattern.{emptyPattern, times}
 use Rattle.algebra.specs.Sum.{Term, term, Sum}
 use Rattle.algebra.specs.Collect.{collect, spread}
 
--- a whole number, and the variable v (below n), as a sum
-unfoldable pub constant : ℕ → ℤ → Sum
-constant n c = collect (term c (emptyPattern n) ∷ [])
+-- an integer, and the variable v (below n), as a sum
+unfoldable pub integer : ℕ → ℤ → Sum
+integer n c = collect (term c (emptyPattern n) ∷ [])
 
 unfoldable pub variable : ℕ → ℕ → Sum
 variable n v = term (pos 1) (set (emptyPattern n) v 1) ∷ []
 
--- the number 1 written out; it is constant n 1
+-- the number 1 written out; it is integer n 1
 abbrev pub unit : ℕ → Sum
 unit n = term (pos 1) (emptyPattern n) ∷ []
 

@@ -23,25 +23,11 @@ pub false-is : (b : Bool) → (T b → ⊥) → b ≡ false
 false-is true h = absurd (h tt)
 false-is false h = refl
 
-pub or-idem : (a b : Bool) → a || (a || b) ≡ a || b
-or-idem true b = refl
-or-idem false b = refl
-
 pub or-swap : (a b c : Bool) → a || (b || c) ≡ b || (a || c)
 or-swap true true c = refl
 or-swap true false c = refl
 or-swap false true c = refl
 or-swap false false c = refl
-
-pub or-comm : (a b : Bool) → a || b ≡ b || a
-or-comm true true = refl
-or-comm true false = refl
-or-comm false true = refl
-or-comm false false = refl
-
-pub or-assoc : (a b c : Bool) → a || (b || c) ≡ (a || b) || c
-or-assoc true b c = refl
-or-assoc false b c = refl
 
 pub or-mix : (a b c d : Bool) → (a || b) || (c || d) ≡ (a || c) || (b || d)
 or-mix true b c d = refl

@@ -7,7 +7,7 @@ use lib.ListN.{set}
 use Rattle.algebra.specs.Pattern.{Pattern, emptyPattern, same}
 use Rattle.algebra.specs.Sum.{Term, term, Sum}
 use Rattle.algebra.specs.Collect.{collect}
-use Rattle.algebra.specs.Arithmetic.{constant, unit, variable, _⊕_}
+use Rattle.algebra.specs.Arithmetic.{integer, unit, variable, _⊕_}
 use Rattle.algebra.specs.Value.{total, onlyIf, coefficientIn, coefficient}
 use Rattle.algebra.proofs.Sums.Total.{collect-total}
 use Rattle.algebra.proofs.Sums.Equal.{coefficient-additive}
@@ -21,9 +21,9 @@ one-coefficient : (c : ℤ) (p r : Pattern) → coefficient (term c p ∷ []) r 
 unfolding coefficient total
 one-coefficient c p r = +ℤ-idr (onlyIf (same r p) c)
 
-pub constant-coefficient : (n : ℕ) (c : ℤ) (r : Pattern) → coefficient (constant n c) r ≡ onlyIf (same r (emptyPattern n)) c
-unfolding constant
-constant-coefficient n c r = collect-coefficient (term c (emptyPattern n) ∷ []) r ∙ one-coefficient c (emptyPattern n) r
+pub integer-coefficient : (n : ℕ) (c : ℤ) (r : Pattern) → coefficient (integer n c) r ≡ onlyIf (same r (emptyPattern n)) c
+unfolding integer
+integer-coefficient n c r = collect-coefficient (term c (emptyPattern n) ∷ []) r ∙ one-coefficient c (emptyPattern n) r
 
 -- a power with exponent 0 is this
 pub unit-coefficient : (n : ℕ) (r : Pattern) → coefficient (unit n) r ≡ onlyIf (same r (emptyPattern n)) (pos 1)

@@ -1,9 +1,8 @@
 -- A sum in order is known by its coefficients; so two lists of terms that have the same totals have the same ordered sum.
 use mathlib.Core.Path.{_≡_, refl, sym, _∙_, ap, ap₂}
-use mathlib.Core.Bool.{Bool, true, false, not, _||_}
+use mathlib.Core.Bool.{Bool, true, false, not, _||_, true≢false}
 use mathlib.Core.List.{List, [], _∷_}
 use Prim.Native.Nat.{ℕ, Ordering, Ordering·lt, Ordering·eq, Ordering·gt}
-use native.Mathlib.Omega.{arith}
 use native.Mathlib.Decide.{ℕ-discrete}
 use lib.Dec.{T}
 use lib.IntN.{ℤ, pos, _+ℤ_, +ℤ-idl, +ℤ-idr}
@@ -19,9 +18,6 @@ use Rattle.algebra.proofs.Sums.Total.{Additive, gather-total, collect-t
 use Rattle.algebra.proofs.Sums.Every.{Every, Long}
 use Rattle.algebra.proofs.Sums.Ordered.{Parts, parts, is-before, order-back, order-head, order-tail, full-head, full-tail, gather-order, collect-order, collect-full}
 use Rattle.algebra.proofs.Sums.Occurs.{occurs-cons, occurs-first, ahead-absent, gather-occurs, absent-coefficient}
-
-true-not-false : true ≡ false → ⊥
-true-not-false e = let z : _≡_ {A = ℕ} 0 1 = cc in omega arith
 
 -- ---- The coefficient is additive.
 
@@ -78,7 +74,7 @@ rest-alike t u s r h k e A = record {
 
 -- a pattern that stands before a list does not occur in it
 not-first : (t : Term) (s r : Sum) → T (inOrder r) → T (ahead (t .pattern) r) → occurs (t .pattern) (t ∷ s) ≡ occurs (t .pattern) r → ⊥
-not-first t s r h k e = true-not-false (sym (occurs-first t s) ∙ e ∙ ahead-absent (t .pattern) r h k)
+not-first t s r h k e = true≢false (sym (occurs-first t s) ∙ e ∙ ahead-absent (t .pattern) r h k)
 
 pub alike-equal : (s t : Sum) → T (inOrder s) → T (inOrder t) → Alike s t → s ≡ t
 alike-equal [] [] h k A = refl

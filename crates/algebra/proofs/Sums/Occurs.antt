@@ -1,6 +1,6 @@
 -- Which patterns stand in a list, and how many different ones: collecting keeps the patterns, and the spread is their number.
 use mathlib.Core.Path.{_≡_, refl, sym, _∙_, ap, ap₂}
-use mathlib.Core.Bool.{Bool, true, false, _||_}
+use mathlib.Core.Bool.{Bool, true, false, _||_, or-self-left}
 use mathlib.Core.List.{List, [], _∷_}
 use Prim.Native.Nat.{ℕ, suc, _≤_, Ordering, Ordering·lt, Ordering·eq, Ordering·gt}
 use native.Mathlib.Omega.{arith}
@@ -11,7 +11,7 @@ use Rattle.algebra.specs.Pattern.{Pattern, same, order}
 use Rattle.algebra.specs.Sum.{Term, Sum, isZero, ahead, inOrder}
 use Rattle.algebra.specs.Collect.{place, insert, gather, keep, dropZeros, collect, occurs, countNew, spread}
 use Rattle.algebra.specs.Value.{total, onlyIf, coefficient}
-use Rattle.algebra.proofs.Numbers.Test.{true-is, false-is, or-idem, or-swap}
+use Rattle.algebra.proofs.Numbers.Test.{true-is, false-is, or-swap}
 use Rattle.algebra.proofs.Patterns.Order.{same-self, same-eq, order-self, order-eq}
 use Rattle.algebra.proofs.Sums.Ordered.{before-is, ahead-trans, order-head, order-tail, gather-order}
 
@@ -52,7 +52,7 @@ place-occurs : (r : Pattern) (o : Ordering) (t u : Term) (s after : Sum) → (o 
     → occurs r after ≡ same r (t .pattern) || occurs r s → occurs r (place o t u s after) ≡ same r (t .pattern) || (same r (u .pattern) || occurs r s)
 unfolding place occurs
 place-occurs r Ordering·lt t u s after f e = refl
-place-occurs r Ordering·eq t u s after f e = rw (f refl) (sym (or-idem (same r (u .pattern)) (occurs r s)))
+place-occurs r Ordering·eq t u s after f e = rw (f refl) (sym (or-self-left (same r (u .pattern)) (occurs r s)))
 place-occurs r Ordering·gt t u s after f e = rw e (or-swap (same r (u .pattern)) (same r (t .pattern)) (occurs r s))
 
 insert-occurs : (r : Pattern) (t : Term) (s : Sum) → occurs r (insert t s) ≡ same r (t .pattern) || occurs r s

@@ -3,13 +3,13 @@ use mathlib.Core.Path.{_≡_, refl, sym, _∙_, ap}
 use mathlib.Core.Bool.{Bool, true, false, not, _&&_}
 use mathlib.Core.List.{List, [], _∷_}
 use Prim.Native.Nat.{ℕ, Ordering, Ordering·lt, Ordering·eq, Ordering·gt}
-use lib.Dec.{T}
+use lib.Dec.{T, T-not}
 use lib.ListN.{length}
 use Rattle.algebra.specs.Pattern.{Pattern, times, order}
 use Rattle.algebra.specs.Sum.{Term, term, Sum, isZero, isBefore, ahead, inOrder, noZero, inVariables, ordered}
 use Rattle.algebra.specs.Arithmetic.{timesTerm, row}
 use Rattle.algebra.specs.Collect.{place, insert, gather, keep, dropZeros, collect}
-use Rattle.algebra.proofs.Numbers.Test.{and, and-l, and-r}
+use Rattle.algebra.proofs.Numbers.Test.{and, and-l, and-r, false-is}
 use Rattle.algebra.proofs.Numbers.Compare.{turn}
 use Rattle.algebra.proofs.Patterns.Order.{order-turn, order-trans, order-times}
 use Rattle.algebra.proofs.Sums.Every.{Every, Long, variables-every, every-variables, collect-every}
@@ -174,14 +174,10 @@ unfolding gather
 gather-fixed [] h = refl
 gather-fixed (t ∷ s) h = ap (insert t) (gather-fixed s (order-tail t s h)) ∙ insert-front t s (order-head t s h)
 
-not-zero : (b : Bool) → T (not b) → b ≡ false
-not-zero true h = absurd h
-not-zero false h = refl
-
 pub drop-fixed : (s : Sum) → T (noZero s) → dropZeros s ≡ s
 unfolding dropZeros keep
 drop-fixed [] h = refl
-drop-fixed (t ∷ s) h = rw (not-zero (isZero (t .coefficient)) (full-head t s h), drop-fixed s (full-tail t s h))
+drop-fixed (t ∷ s) h = rw (false-is (isZero (t .coefficient)) (T-not (isZero (t .coefficient)) (full-head t s h)), drop-fixed s (full-tail t s h))
 
 pub collect-fixed : (n : ℕ) (s : Sum) → T (ordered n s) → collect s ≡ s
 unfolding collect

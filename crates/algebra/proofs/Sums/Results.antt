@@ -11,7 +11,7 @@ use lib.ListN.{length, set, length-set, length-replicate}
 use Rattle.algebra.specs.Pattern.{Pattern, emptyPattern, degree, same, order}
 use Rattle.algebra.specs.Sum.{Term, term, Sum, isZero, ahead, inOrder, noZero, ordered, degreeOf, weight}
 use Rattle.algebra.specs.Collect.{place, insert, gather, keep, dropZeros, collect, occurs, countNew, spread}
-use Rattle.algebra.specs.Arithmetic.{constant, variable, unit, row, pairs, _⊕_, sumSpread, _⊗_, productSpread, power, powerSpread}
+use Rattle.algebra.specs.Arithmetic.{integer, variable, unit, row, pairs, _⊕_, sumSpread, _⊗_, productSpread, power, powerSpread}
 use Rattle.algebra.specs.Value.{total, onlyIf, coefficientIn, coefficient}
 use Rattle.algebra.proofs.Numbers.Absolute.{abs-add, abs-mul}
 use Rattle.algebra.proofs.Patterns.Laws.{times-length, times-degree, empty-degree}
@@ -28,17 +28,17 @@ pub unit-ordered : (n : ℕ) → T (ordered n (unit n))
 unfolding noZero
 unit-ordered n = one-term n (pos 1) (emptyPattern n) tt (length-replicate n 0)
 
-pub unit-constant : (n : ℕ) → constant n (pos 1) ≡ unit n
-unfolding constant collect gather insert dropZeros keep
-unit-constant n = refl
+pub unit-integer : (n : ℕ) → integer n (pos 1) ≡ unit n
+unfolding integer collect gather insert dropZeros keep
+unit-integer n = refl
 
 pub variable-ordered : (n v : ℕ) → T (ordered n (variable n v))
 unfolding variable noZero
 variable-ordered n v = one-term n (pos 1) (set (emptyPattern n) v 1) tt (length-set (emptyPattern n) v 1 ∙ length-replicate n 0)
 
-pub constant-ordered : (n : ℕ) (c : ℤ) → T (ordered n (constant n c))
-unfolding constant
-constant-ordered n c = collect-ordered n (term c (emptyPattern n) ∷ []) (length-replicate n 0, tt)
+pub integer-ordered : (n : ℕ) (c : ℤ) → T (ordered n (integer n c))
+unfolding integer
+integer-ordered n c = collect-ordered n (term c (emptyPattern n) ∷ []) (length-replicate n 0, tt)
 
 pub sum-ordered : (n : ℕ) (s t : Sum) → T (ordered n s) → T (ordered n t) → T (ordered n (s ⊕ t))
 unfolding _⊕_
@@ -76,9 +76,9 @@ power-degree n s zero = unfold degreeOf in omega (arith, empty-degree n)
 power-degree n s (suc zero) = omega arith
 power-degree n s (suc (suc e)) = omega (arith, product-degree (power n s (suc e)) s, power-degree n s (suc e))
 
-pub constant-degree : (n : ℕ) (c : ℤ) → degreeOf (constant n c) ≡ 0
-unfolding constant
-constant-degree n c = omega (arith, every-degree 0 (collect (term c (emptyPattern n) ∷ [])) (collect-every (UpTo 0) (term c (emptyPattern n) ∷ []) (omega (arith, empty-degree n), tt)))
+pub integer-degree : (n : ℕ) (c : ℤ) → degreeOf (integer n c) ≡ 0
+unfolding integer
+integer-degree n c = omega (arith, every-degree 0 (collect (term c (emptyPattern n) ∷ [])) (collect-every (UpTo 0) (term c (emptyPattern n) ∷ []) (omega (arith, empty-degree n), tt)))
 
 pub variable-degree : (n v : ℕ) → degreeOf (variable n v) ≤ 1
 unfolding variable
@@ -140,9 +140,9 @@ unfolding pairs weight
 pairs-weight [] t = omega arith
 pairs-weight (u ∷ s) t = omega (arith, append-weight (row u t) (pairs s t), row-weight u t, pairs-weight s t)
 
-pub constant-weight : (n : ℕ) (c : ℤ) → weight (constant n c) ≤ natAbs c
-unfolding constant
-constant-weight n c = unfold weight in omega (arith, collect-weight (term c (emptyPattern n) ∷ []))
+pub integer-weight : (n : ℕ) (c : ℤ) → weight (integer n c) ≤ natAbs c
+unfolding integer
+integer-weight n c = unfold weight in omega (arith, collect-weight (term c (emptyPattern n) ∷ []))
 
 pub variable-weight : (n v : ℕ) → weight (variable n v) ≡ 1
 unfolding variable weight
@@ -174,9 +174,9 @@ power-weight n s (suc (suc e)) = rw pow-suc (le-trans (product-weight (power n s
 
 -- ---- Number of terms.
 
-pub constant-length : (n : ℕ) (c : ℤ) → length (constant n c) ≤ 1
-unfolding constant spread occurs countNew
-constant-length n c = collect-length (term c (emptyPattern n) ∷ [])
+pub integer-length : (n : ℕ) (c : ℤ) → length (integer n c) ≤ 1
+unfolding integer spread occurs countNew
+integer-length n c = collect-length (term c (emptyPattern n) ∷ [])
 
 pub sum-length : (s t : Sum) → length (s ⊕ t) ≤ sumSpread s t
 unfolding _⊕_ sumSpread

@@ -11,7 +11,7 @@ use lib.ListN.{length, length-set, length-map}
 use Rattle.algebra.specs.Pattern.{Pattern, emptyPattern, times, exponent, raised, lowered, same}
 use Rattle.algebra.specs.Sum.{Term, term, Sum, ordered, degreeOf, weight}
 use Rattle.algebra.specs.Collect.{gather, dropZeros, collect}
-use Rattle.algebra.specs.Arithmetic.{constant, timesTerm, _⊕_, _⊗_}
+use Rattle.algebra.specs.Arithmetic.{integer, timesTerm, _⊕_, _⊗_}
 use Rattle.algebra.specs.Slope.{slopeTerm, slope}
 use Rattle.algebra.specs.Value.{total, onlyIf, coefficientIn, coefficient}
 use Rattle.algebra.proofs.Numbers.Whole.{*ℤ-assoc, *ℤ-+ℤ, +ℤ-*ℤ}
@@ -25,7 +25,7 @@ use Rattle.algebra.proofs.Sums.Ordered.{parts, collect-ordered}
 use Rattle.algebra.proofs.Sums.Occurs.{collect-length, spread-length}
 use Rattle.algebra.proofs.Sums.Equal.{if-none, coefficient-additive, collect-equal}
 use Rattle.algebra.proofs.Sums.Ring.{term-comm, sum-total, product-total, left-additive, right-additive, sum-zero, zero-product}
-use Rattle.algebra.proofs.Sums.Results.{product-ordered, constant-ordered, collect-weight}
+use Rattle.algebra.proofs.Sums.Results.{product-ordered, integer-ordered, collect-weight}
 
 -- ---- Totals.
 
@@ -131,20 +131,20 @@ unfolding slope
 slope-ordered n v s h = collect-ordered n (map (slopeTerm v) s) (lowered-length n v s (parts n s h .long))
 
 -- a number has no slope, so it can be put in front of one
-pub slope-constant : (n v : ℕ) (c : ℤ) → slope v (constant n c) ≡ []
+pub slope-integer : (n v : ℕ) (c : ℤ) → slope v (integer n c) ≡ []
 unfolding collect gather dropZeros
-slope-constant n v c = unfold slope in collect-equal (map (slopeTerm v) (constant n c)) [] agree
+slope-integer n v c = unfold slope in collect-equal (map (slopeTerm v) (integer n c)) [] agree
   where
-    agree : (f : Term → ℤ) → Additive f → total f (map (slopeTerm v) (constant n c)) ≡ total f []
+    agree : (f : Term → ℤ) → Additive f → total f (map (slopeTerm v) (integer n c)) ≡ total f []
     agree f A =
-        total-map f (slopeTerm v) (constant n c) ∙ unfold constant in collect-total _ (slope-additive v f A) (term c (emptyPattern n) ∷ [])
+        total-map f (slopeTerm v) (integer n c) ∙ unfold integer in collect-total _ (slope-additive v f A) (term c (emptyPattern n) ∷ [])
         ∙ unfold total in (ap (λ z. f (term z (lowered v (emptyPattern n))) +ℤ pos 0) (ap (λ m. c *ℤ pos m) (empty-exponent n v) ∙ *ℤ-zero c) ∙ ap (λ z. z +ℤ pos 0) (A .none _))
 
-pub slope-multiple : (n v : ℕ) (c : ℤ) (s : Sum) → T (ordered n s) → slope v (constant n c ⊗ s) ≡ constant n c ⊗ slope v s
+pub slope-multiple : (n v : ℕ) (c : ℤ) (s : Sum) → T (ordered n s) → slope v (integer n c ⊗ s) ≡ integer n c ⊗ slope v s
 slope-multiple n v c s h =
-    slope-product v (constant n c) s ∙ ap (λ z. z ⊗ s ⊕ constant n c ⊗ slope v s) (slope-constant n v c)
-    ∙ ap (λ z. z ⊕ constant n c ⊗ slope v s) (zero-product s)
-    ∙ sum-zero n (constant n c ⊗ slope v s) (product-ordered n (constant n c) (slope v s) (constant-ordered n c) (slope-ordered n v s h))
+    slope-product v (integer n c) s ∙ ap (λ z. z ⊗ s ⊕ integer n c ⊗ slope v s) (slope-integer n v c)
+    ∙ ap (λ z. z ⊕ integer n c ⊗ slope v s) (zero-product s)
+    ∙ sum-zero n (integer n c ⊗ slope v s) (product-ordered n (integer n c) (slope v s) (integer-ordered n c) (slope-ordered n v s h))
 
 -- ---- Degree, weight and number of terms.
 

@@ -5,7 +5,8 @@ use mathlib.Core.List.{List, [], _∷_}
 use Prim.Native.Nat.{ℕ, zero, suc, _+_, _≤_, _<_}
 use native.Mathlib.Omega.{arith}
 use native.Mathlib.Decide.{ℕ-discrete}
-use lib.Dec.{T, eqb, eqb→eq, eqb-refl}
+use borrow.Author.Tests.{eq-eqb, ne-eqb}
+use lib.Dec.{T, eqb}
 use lib.IntN.{ℤ, pos, _+ℤ_, _*ℤ_, +ℤ-idl, +ℤ-idr, *ℤ-comm, *ℤ-zero}
 use lib.ListN.{length}
 use Rattle.algebra.specs.Pattern.{Pattern, times, same}
@@ -15,7 +16,6 @@ use Rattle.algebra.specs.Value.{total, onlyIf, coefficientIn, coefficien
 use Rattle.algebra.proofs.Numbers.Whole.{+ℤ-mix}
 use Rattle.algebra.proofs.Sums.Total.{total-ext, total-times}
 use Rattle.algebra.proofs.Sums.Every.{Every, Long, variables-every}
-use Rattle.algebra.proofs.Numbers.Test.{true-is, false-is}
 use Rattle.algebra.proofs.Sums.Ordered.{ordered-variables}
 use Rattle.algebra.proofs.Sums.Equal.{coefficient-additive}
 use Rattle.algebra.proofs.Sums.Ring.{product-total, power-suc}
@@ -74,8 +74,8 @@ same-test : (m n m' n' : ℕ) → (m ≡ n → m' ≡ n') → (m' ≡ n' → m �
 same-test m n m' n' f g = go (ℕ-discrete m n)
   where
     go : Dec (m ≡ n) → eqb m n ≡ eqb m' n'
-    go (yes e) = true-is (eqb m n) (rw e (eqb-refl n)) ∙ sym (true-is (eqb m' n') (rw (f e) (eqb-refl n')))
-    go (no e) = false-is (eqb m n) (λ t. e (eqb→eq m n t)) ∙ sym (false-is (eqb m' n') (λ t. e (g (eqb→eq m' n' t))))
+    go (yes e) = eq-eqb m n e ∙ sym (eq-eqb m' n' (f e))
+    go (no e) = ne-eqb m n e ∙ sym (ne-eqb m' n' (λ d. e (g d)))
 
 -- ---- A number has one split with given parts.
 
@@ -85,7 +85,7 @@ module _ (x y : ℕ) (c : ℤ) where
 
   miss : (i j : ℕ) → (j ≡ y → ⊥) → hit i j ≡ pos 0
   unfolding hit
-  miss i j f = ap (λ b. onlyIf (eqb i x && b) c) (false-is (eqb j y) (λ t. f (eqb→eq j y t))) ∙ neither (eqb i x)
+  miss i j f = ap (λ b. onlyIf (eqb i x && b) c) (ne-eqb j y f) ∙ neither (eqb i x)
     where
       neither : (a : Bool) → onlyIf (a && false) c ≡ pos 0
       neither true = unfold onlyIf in refl
@@ -99,7 +99,7 @@ module _ (x y : ℕ) (c : ℤ) where
   at-end : (i j : ℕ) → j ≡ y → hit i j ≡ onlyIf (eqb (i + j) (x + y)) c
   unfolding hit
   at-end i j e =
-      ap (λ b. onlyIf (eqb i x && b) c) (true-is (eqb j y) (rw e (eqb-refl y)))
+      ap (λ b. onlyIf (eqb i x && b) c) (eq-eqb j y e)
       ∙ ap (λ b. onlyIf b c) (and-true (eqb i x) ∙ same-test i x (i + j) (x + y) (λ h. omega arith) (λ h. omega arith))
     where
       and-true : (a : Bool) → a && true ≡ a
@@ -112,7 +112,7 @@ module _ (x y : ℕ) (c : ℤ) where
     where
       go : Dec (j ≡ y) → hit zero j ≡ onlyIf (eqb (zero + j) (x + y)) c
       go (yes e) = at-end zero j e
-      go (no f) = miss zero j f ∙ sym (ap (λ b. onlyIf b c) (false-is (eqb (zero + j) (x + y)) (λ t. f (omega (arith, eqb→eq (zero + j) (x + y) t)))))
+      go (no f) = miss zero j f ∙ sym (ap (λ b. onlyIf b c) (ne-eqb (zero + j) (x + y) (λ e. f (omega arith))))
   one-split (suc i) j h = go (ℕ-discrete j y) (one-split i (suc j))
     where
       go : Dec (j ≡ y) → (suc j ≤ y → splitNumber hit i (suc j) ≡ onlyIf (eqb (i + suc j) (x + y)) c)

@@ -1,6 +1,6 @@
 -- The spread goes by the patterns alone: not by the order of the terms, nor by that of a product's operands; and it never falls.
 use mathlib.Core.Path.{_≡_, refl, sym, _∙_, ap, ap₂}
-use mathlib.Core.Bool.{Bool, true, false, _||_}
+use mathlib.Core.Bool.{Bool, true, false, _||_, or-comm, or-assoc}
 use mathlib.Core.List.{List, [], _∷_, _++_, map}
 use Prim.Native.Nat.{ℕ, _≤_}
 use native.Mathlib.Omega.{arith}
@@ -11,7 +11,7 @@ use Rattle.algebra.specs.Sum.{Term, term, Sum}
 use Rattle.algebra.specs.Collect.{occurs, countNew, spread}
 use Rattle.algebra.specs.Arithmetic.{timesTerm, row, pairs, sumSpread, productSpread}
 use Rattle.algebra.specs.Value.{total, coefficient}
-use Rattle.algebra.proofs.Numbers.Test.{or-comm, or-assoc, or-mix}
+use Rattle.algebra.proofs.Numbers.Test.{or-mix}
 use Rattle.algebra.proofs.Patterns.Laws.{times-comm}
 use Rattle.algebra.proofs.Sums.Occurs.{occurs-cons, spread-gather}
 use Rattle.algebra.proofs.Sums.Equal.{if-none, gather-equal}
@@ -47,7 +47,7 @@ same-spread l m h =
 pub append-occurs : (r : Pattern) (l m : List Term) → occurs r (l ++ m) ≡ occurs r l || occurs r m
 unfolding occurs
 append-occurs r [] m = refl
-append-occurs r (t ∷ l) m = ap (λ b. same r (t .pattern) || b) (append-occurs r l m) ∙ or-assoc (same r (t .pattern)) (occurs r l) (occurs r m)
+append-occurs r (t ∷ l) m = ap (λ b. same r (t .pattern) || b) (append-occurs r l m) ∙ sym (or-assoc (same r (t .pattern)) (occurs r l) (occurs r m))
 
 pub append-spread : (l m : List Term) → spread (l ++ m) ≡ spread (m ++ l)
 append-spread l m = same-spread (l ++ m) (m ++ l) (λ r. append-occurs r l m ∙ or-comm (occurs r l) (occurs r m) ∙ sym (append-occurs r m l))

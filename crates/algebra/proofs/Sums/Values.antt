@@ -9,7 +9,7 @@ use lib.ListN.{getD, set}
 use Rattle.algebra.specs.Pattern.{Pattern, emptyPattern, times}
 use Rattle.algebra.specs.Sum.{Term, term, Sum}
 use Rattle.algebra.specs.Collect.{collect}
-use Rattle.algebra.specs.Arithmetic.{constant, variable, unit, timesTerm, row, pairs, _⊕_, _⊗_, power}
+use Rattle.algebra.specs.Arithmetic.{integer, variable, unit, timesTerm, row, pairs, _⊕_, _⊗_, power}
 use Rattle.algebra.specs.Value.{total, patternValue, termValue, value}
 use Rattle.algebra.proofs.Numbers.Whole.{*ℤ-assoc, +ℤ-*ℤ, one-*ℤ, *ℤ-oner, *ℤ-mix}
 use Rattle.algebra.proofs.Sums.Total.{Additive, total-ext, total-append, total-times, row-total, collect-total}
@@ -69,9 +69,9 @@ pub unit-value : (n : ℕ) (x : List ℤ) → value (unit n) x ≡ pos 1
 unfolding value total
 unit-value n x = rw (empty-value n x)
 
-pub constant-value : (n : ℕ) (c : ℤ) (x : List ℤ) → value (constant n c) x ≡ c
-unfolding constant
-constant-value n c x = collect-value (term c (emptyPattern n) ∷ []) x ∙ unfold value total in (+ℤ-idr (c *ℤ patternValue (emptyPattern n) x) ∙ ap (λ z. c *ℤ z) (empty-value n x) ∙ *ℤ-oner c)
+pub integer-value : (n : ℕ) (c : ℤ) (x : List ℤ) → value (integer n c) x ≡ c
+unfolding integer
+integer-value n c x = collect-value (term c (emptyPattern n) ∷ []) x ∙ unfold value total in (+ℤ-idr (c *ℤ patternValue (emptyPattern n) x) ∙ ap (λ z. c *ℤ z) (empty-value n x) ∙ *ℤ-oner c)
 
 pub variable-value : (n v : ℕ) (x : List ℤ) → v < n → value (variable n v) x ≡ getD x v (pos 1)
 unfolding variable value total
