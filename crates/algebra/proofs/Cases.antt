@@ -6,6 +6,7 @@ use Prim.Native.Nat.{ℕ}
 use lib.Dec.{T, eqb, eqb→eq}
 use lib.IntN.{ℤ, pos, negsuc, one, pow}
 use lib.ListN.{length, replicate}
+use Rattle.answers.proofs.Tables.{Each}
 use Rattle.algebra.specs.Limits.{variables, largestWeight}
 use Rattle.algebra.specs.Pattern.{times, degree, same, thenBy, byPowers, order}
 use Rattle.algebra.specs.Sum.{term, Sum, degreeOf, weight}
@@ -30,10 +31,6 @@ Says (sums s t) = s ≡ t
 Says (counts m n) = m ≡ n
 Says (numbers x y) = x ≡ y
 
-abbrev Each : List Case → Type 0
-Each [] = Unit {0}
-Each (c ∷ cs) = Says c × Each cs
-
 holds : Case → Bool
 unfolding sameSum sameNumber
 holds (sums s t) = sameSum s t
@@ -51,7 +48,7 @@ says (sums s t) h = sum-eq s t h
 says (counts m n) h = eqb→eq m n h
 says (numbers x y) h = number-eq x y h
 
-each : (cs : List Case) → T (hold cs) → Each cs
+each : (cs : List Case) → T (hold cs) → Each Says cs
 unfolding hold
 each [] h = tt
 each (c ∷ cs) h = (says c (and-l (holds c) (hold cs) h), each cs (and-r (holds c) (hold cs) h))
@@ -151,6 +148,6 @@ table =
     ∷ counts (powerSpread variables everyone 3) 120
     ∷ []
 
-cases-hold : Each table
+cases-hold : Each Says table
 unfolding table hold
 cases-hold = each table tt

@@ -1,11 +1,14 @@
 -- Each public function's contract leaves one outcome, as its caller sees it: the result itself, not only what is said of it.
-use mathlib.Core.Path.{_≡_, refl, sym, _∙_, ap, ap₂}
+use mathlib.Core.Path.{_≡_, refl, ap, ap₂}
 use Prim.Native.Nat.{ℕ}
+use Rattle.answers.proofs.Outcomes.{One, same}
 use Rattle.algebra.specs.Standing.{standing}
 use Rattle.algebra.specs.declared.Pattern.{Pattern}
 use Rattle.algebra.specs.declared.Step.{Step}
 use Rattle.algebra.specs.declared.Standing.{Standing}
 use Rattle.algebra.specs.declared.Standing.the-variants.{Before, Same, After}
+use Rattle.algebra.proofs.most_terms.Reads as most-terms
+use Rattle.algebra.proofs.largest_weight.Reads as largest-weight
 use Rattle.algebra.proofs.Pattern.variables.Reads as variables
 use Rattle.algebra.proofs.Pattern.largest_degree.Reads as largest-degree
 use Rattle.algebra.proofs.Pattern.empty.Reads as empty
@@ -13,23 +16,17 @@ use Rattle.algebra.proofs.Pattern.product.Reads as product
 use Rattle.algebra.proofs.Pattern.degree.Reads as degree
 use Rattle.algebra.proofs.Pattern.compare.Reads as compare
 use Rattle.algebra.proofs.Pattern.exponent.Reads as exponent
+use Rattle.algebra.proofs.Pattern.power.Reads as power
+use Rattle.algebra.proofs.Pattern.is_valid.Reads as is-valid
 use Rattle.algebra.proofs.Pattern.slope_step.Reads as slope-step
 
--- A function's `Learnt` is what its caller learns: of the arguments, the result, and the arguments after the call. These functions lend
--- nothing, so the result is all that a caller sees, and `Learnt` holds of one result.
-abbrev pub One : {K : Type 0} {Arguments Result Exit : K → Type 0} → ((k : K) → Arguments k → Result k → Exit k → Type 0) → Type 0
-One {K} {Arguments} {Result} {Exit} learnt = (k : K) (a : Arguments k) (r r' : Result k) (e e' : Exit k) → learnt k a r e → learnt k a r' e' → r ≡ r'
-
--- ---- The four kinds of results, each of which its contract fixes by equations.
-
-number : {m n k : ℕ} → m ≡ k → n ≡ k → m ≡ n
-number h h' = h ∙ sym h'
+-- ---- Results that a contract fixes by equations of their parts.
 
 pattern : {p q : Pattern} {k : ℕ} → p .0 ≡ k → q .0 ≡ k → p ≡ q
-pattern h h' = ap (λ (w : ℕ). record { 0 = w }) (number h h')
+pattern h h' = ap (λ (w : ℕ). record { 0 = w }) (same h h')
 
 step : {s t : Step} {k l : ℕ} → (s .power ≡ k) × (s .pattern .0 ≡ l) → (t .power ≡ k) × (t .pattern .0 ≡ l) → s ≡ t
-step h h' = ap₂ (λ (n : ℕ) (p : Pattern). record { power = n; pattern = p }) (number (h .0) (h' .0)) (pattern (h .1) (h' .1))
+step h h' = ap₂ (λ (n : ℕ) (p : Pattern). record { power = n; pattern = p }) (same (h .0) (h' .0)) (pattern (h .1) (h' .1))
 
 -- different answers stand for different orderings
 answer : (s t : Standing) → standing s ≡ standing t → s ≡ t
@@ -45,11 +42,17 @@ answer After After h = refl
 
 -- ---- The functions.
 
+pub most-terms-one : One most-terms.Learnt
+most-terms-one k a r r' e e' h h' = same h h'
+
+pub largest-weight-one : One largest-weight.Learnt
+largest-weight-one k a r r' e e' h h' = same h h'
+
 pub variables-one : One variables.Learnt
-variables-one k a r r' e e' h h' = number h h'
+variables-one k a r r' e e' h h' = same h h'
 
 pub largest-degree-one : One largest-degree.Learnt
-largest-degree-one k a r r' e e' h h' = number h h'
+largest-degree-one k a r r' e e' h h' = same h h'
 
 pub empty-one : One empty.Learnt
 empty-one k a r r' e e' h h' = pattern h h'
@@ -58,13 +61,19 @@ pub product-one : One product.Learnt
 product-one k a r r' e e' h h' = pattern h h'
 
 pub degree-one : One degree.Learnt
-degree-one k a r r' e e' h h' = number h h'
+degree-one k a r r' e e' h h' = same h h'
 
 pub compare-one : One compare.Learnt
-compare-one k a r r' e e' h h' = answer r r' (h ∙ sym h')
+compare-one k a r r' e e' h h' = answer r r' (same h h')
 
 pub exponent-one : One exponent.Learnt
-exponent-one k a r r' e e' h h' = number h h'
+exponent-one k a r r' e e' h h' = same h h'
+
+pub power-one : One power.Learnt
+power-one k a r r' e e' h h' = pattern h h'
+
+pub is-valid-one : One is-valid.Learnt
+is-valid-one k a r r' e e' h h' = same h h'
 
 pub slope-step-one : One slope-step.Learnt
 slope-step-one k a r r' e e' h h' = step h h'

@@ -1,5 +1,7 @@
 -- A pattern held as one word: the positional value of its exponents, the first of them highest.
 use mathlib.Core.Path.{_≡_}
+use mathlib.Core.Bool.{Bool, _&&_}
+use lib.Dec.{eqb, leb}
 use mathlib.Core.List.{List, [], _∷_}
 use Prim.Native.Nat.{ℕ, zero, suc, _+_, _*_, _^_, _/_, _%_, _≤_}
 use lib.IntN.{ℤ}
@@ -39,7 +41,10 @@ exponents w = fieldsOf fieldSize variables w
 unfoldable pub terms : List ℕ → List ℤ → List Term
 terms ws cs = termsBy exponents ws cs
 
--- the word is that of a pattern, and the pattern is within the limits
+-- the word is that of a pattern, and the pattern is within the limits: as a test, and as a statement
+unfoldable pub isValid : ℕ → Bool
+isValid w = eqb (word (exponents w)) w && leb (degree (exponents w)) largestDegree
+
 pub record Valid (w : ℕ) : Type 0 where
   pub is : word (exponents w) ≡ w
   pub low : degree (exponents w) ≤ largestDegree

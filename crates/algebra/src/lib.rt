@@ -1,10 +1,29 @@
 // Power patterns, each in one machine word.
 ghost use mathlib.Core.Path.{_≡_};
 ghost use Prim.Native.Nat.{_+_, _*_, _-_, _≤_, _<_};
-ghost use Rattle.algebra.specs.Limits.{variables, largestDegree};
+ghost use lib.ListN.{set};
+ghost use Rattle.algebra.specs.Limits.{variables, largestDegree, mostTerms, largestWeight};
 ghost use Rattle.algebra.specs.Pattern.{emptyPattern, times, degree, exponent, lowered, order};
-ghost use Rattle.algebra.specs.Word.{word, exponents, Valid};
+ghost use Rattle.algebra.specs.Word.{word, exponents, isValid, Valid};
 ghost use Rattle.algebra.specs.Standing.{standing};
+
+// The limits of a sum. (Those of a pattern are the pattern's own.)
+pub const MOST_TERMS: usize = 128;
+
+pub const LARGEST_WEIGHT: u64 = 4611686018427387904;
+
+// The next two tie them to the definitions.
+pub fn most_terms() -> usize
+    ensures { λ r. ⌜ r ≡ mostTerms ⌝ }
+{
+    MOST_TERMS
+}
+
+pub fn largest_weight() -> u64
+    ensures { λ r. ⌜ r ≡ largestWeight ⌝ }
+{
+    LARGEST_WEIGHT
+}
 
 // Where a pattern stands in the term order, seen from another one.
 pub enum Standing {
@@ -111,6 +130,29 @@ impl Pattern {
         ensures { λ r. ⌜ r ≡ exponent v (exponents (self .0)) ⌝ }
     {
         (self.0 >> Pattern::bits_below(v)) % Pattern::FIELD_SIZE
+    }
+
+    // The power e of variable v alone.
+    pub fn power(v: u64, e: u64) -> Pattern
+        requires { ⌜ v < variables ⌝ }
+        requires { ⌜ e ≤ largestDegree ⌝ }
+        ensures { λ r. ⌜ r .0 ≡ word (set (emptyPattern variables) v e) ⌝ }
+    {
+        Pattern(e << Pattern::bits_below(v))
+    }
+
+    // For any word: a caller's word is taken field by field. Each word is that of its eight bytes, so
+    // the degree decides.
+    pub fn is_valid(self) -> bool
+        ensures { λ r. ⌜ r ≡ isValid (self .0) ⌝ }
+    {
+        let mut total: u64 = 0;
+        let mut v: u64 = 0;
+        while v < Pattern::VARIABLES {
+            total += self.exponent(v);
+            v += 1;
+        }
+        total <= Pattern::LARGEST_DEGREE
     }
 
     // A pattern without v is its own step: the power 0 says that its term goes.

@@ -6,11 +6,11 @@ use native.Mathlib.Omega.{arith}
 use native.Mathlib.Nat.{pow-zero, pow-suc, pow-succ', mul-zero, mul-suc, mod-eq-of-lt, mod-lt, mod-one, add-mul, mul-assoc, mul-add-div-right, mul-add-mod-self-right, one-le-pow}
 use lib.Arith.{digits-lt, digits-div, digits-mod, mod-mul}
 use lib.Pow.{pow-add}
-use lib.ListN.{length, length-set}
+use lib.ListN.{length, set, length-set}
 use Rattle.algebra.specs.Pattern.{Pattern, emptyPattern, times, degree, exponent, lowered, thenBy, byPowers, order}
 use Rattle.algebra.specs.Word.{wordOf, fieldsOf}
 use Rattle.algebra.proofs.Numbers.Compare.{Says, compare-says, compare-is, compare-add}
-use Rattle.algebra.proofs.Patterns.Laws.{times-length}
+use Rattle.algebra.proofs.Patterns.Laws.{times-length, empty-length}
 
 -- ---- A word and its fields.
 
@@ -85,6 +85,17 @@ pub word-zero : (B n : ℕ) → wordOf B (emptyPattern n) ≡ 0
 unfolding wordOf
 word-zero B zero = refl
 word-zero B (suc n) = omega (arith, word-zero B n)
+
+-- the power e of one variable stands at that variable's place
+pub word-alone : (B n v e : ℕ) → v < n → wordOf B (set (emptyPattern n) v e) ≡ e * B ^ (n - suc v)
+unfolding wordOf
+word-alone B zero v e h = absurd (omega arith)
+word-alone B (suc n) zero e h =
+    let i : suc n - 1 ≡ n = omega arith in
+    rw (i, empty-length n, word-zero B n) (omega arith)
+word-alone B (suc n) (suc v) e h =
+    let i : suc n - suc (suc v) ≡ n - suc v = omega arith in
+    rw (i, word-alone B n v e (omega arith)) (omega arith)
 
 -- ---- The product of two patterns: the words add up.
 

@@ -1,6 +1,6 @@
--- Terms held in two lists, place by place, however a word is read: their number, parts of them, and one of them.
-use mathlib.Core.Path.{_≡_, refl, ap}
-use mathlib.Core.List.{List, [], _∷_, _++_}
+-- Terms held in two lists, place by place, however a word is read: their number, parts of them, one of them, and the two lists again.
+use mathlib.Core.Path.{_≡_, refl, ap, ap₂}
+use mathlib.Core.List.{List, [], _∷_, _++_, map}
 use Prim.Native.Nat.{ℕ, zero, suc, _<_}
 use native.Mathlib.Omega.{arith}
 use lib.IntN.{ℤ, pos}
@@ -44,3 +44,19 @@ module _ (read : ℕ → Pattern) where
   held-at k (w ∷ ws) [] t h l = absurd (omega arith)
   held-at zero (w ∷ ws) (c ∷ cs) t h l = refl
   held-at (suc k) (w ∷ ws) (c ∷ cs) t h l = held-at k ws cs t (omega arith) (omega arith)
+
+  -- the coefficients again, and the words again if each is written as it was read
+  pub held-coefficients : (ws : List ℕ) (cs : List ℤ) → length ws ≡ length cs → map (λ (t : Term). t .coefficient) (termsBy read ws cs) ≡ cs
+  unfolding termsBy
+  held-coefficients [] [] h = refl
+  held-coefficients [] (c ∷ cs) h = absurd (omega arith)
+  held-coefficients (w ∷ ws) [] h = absurd (omega arith)
+  held-coefficients (w ∷ ws) (c ∷ cs) h = ap (λ l. c ∷ l) (held-coefficients ws cs (omega arith))
+
+  pub held-words : (write : Pattern → ℕ) (ws : List ℕ) (cs : List ℤ) → length ws ≡ length cs
+      → ((i : ℕ) → i < length ws → write (read (getD ws i 0)) ≡ getD ws i 0) → map (λ (t : Term). write (t .pattern)) (termsBy read ws cs) ≡ ws
+  unfolding termsBy
+  held-words write [] cs h again = refl
+  held-words write (w ∷ ws) [] h again = absurd (omega arith)
+  held-words write (w ∷ ws) (c ∷ cs) h again =
+      ap₂ (λ (v : ℕ) (l : List ℕ). v ∷ l) (again 0 (omega arith)) (held-words write ws cs (omega arith) (λ i k. again (suc i) (omega arith)))

@@ -1,12 +1,12 @@
 -- The laws of patterns, over any number of variables. The order of patterns is in Order.
 use mathlib.Core.Path.{_≡_, refl, _∙_, ap, ap₂}
-use mathlib.Core.List.{[], _∷_}
+use mathlib.Core.List.{[], _∷_, _++_, append-nil}
 use Prim.Native.Nat.{ℕ, zero, suc, _+_, _-_, _≤_, _<_}
 use native.Mathlib.Omega.{arith}
-use native.Mathlib.Nat.{add-comm, add-assoc, zero-add}
-use lib.ListN.{length, set}
+use native.Mathlib.Nat.{add-comm, add-assoc, add-zero, zero-add}
+use lib.ListN.{length, set, length-set, length-append, length-replicate}
 use lib.Seq.{getD-set-same, set-set, set-getD}
-use Rattle.algebra.specs.Pattern.{Pattern, emptyPattern, times, degree, exponent, raised, lowered}
+use Rattle.algebra.specs.Pattern.{Pattern, emptyPattern, times, degree, exponent, raised, lowered, filled}
 
 -- ---- Products.
 
@@ -52,6 +52,11 @@ pub empty-degree : (n : ℕ) → degree (emptyPattern n) ≡ 0
 unfolding degree
 empty-degree zero = refl
 empty-degree (suc n) = omega (arith, empty-degree n)
+
+pub degree-append : (p q : Pattern) → degree (p ++ q) ≡ degree p + degree q
+unfolding degree
+degree-append [] q = omega arith
+degree-append (e ∷ p) q = omega (arith, degree-append p q)
 
 pub set-degree : (v e : ℕ) (p : Pattern) → e ≤ exponent v p → degree (set p v e) ≤ degree p
 unfolding degree
@@ -105,3 +110,41 @@ pub empty-exponent : (n v : ℕ) → exponent v (emptyPattern n) ≡ 0
 empty-exponent zero v = refl
 empty-exponent (suc n) zero = refl
 empty-exponent (suc n) (suc v) = empty-exponent n v
+
+-- ---- One variable alone, and a pattern made exponent by exponent.
+
+pub empty-length : (n : ℕ) → length (emptyPattern n) ≡ n
+empty-length n = length-replicate {A = ℕ} n 0
+
+pub alone-length : (n v e : ℕ) → length (set (emptyPattern n) v e) ≡ n
+alone-length n v e = length-set (emptyPattern n) v e ∙ empty-length n
+
+pub alone-degree : (n v e : ℕ) → v < n → degree (set (emptyPattern n) v e) ≡ e
+unfolding degree
+alone-degree zero v e h = absurd (omega arith)
+alone-degree (suc n) zero e h = omega (arith, empty-degree n)
+alone-degree (suc n) (suc v) e h = omega (arith, alone-degree n v e (omega arith))
+
+pub filled-length : (n : ℕ) (p : Pattern) → length p ≤ n → length (filled n p) ≡ n
+filled-length n p h = length-append p (emptyPattern (n - length p)) ∙ omega (arith, empty-length (n - length p))
+
+pub filled-all : (n : ℕ) (p : Pattern) → length p ≡ n → filled n p ≡ p
+filled-all n p h =
+    let none : n - length p ≡ 0 = omega arith in
+    rw none (append-nil p)
+
+pub filled-degree : (n : ℕ) (p : Pattern) → degree (filled n p) ≡ degree p
+filled-degree n p = degree-append p (emptyPattern (n - length p)) ∙ omega (arith, empty-degree (n - length p))
+
+-- the next exponent comes in by a product
+pub filled-next : (n : ℕ) (p : Pattern) (e : ℕ) → length p < n → times (filled n p) (set (emptyPattern n) (length p) e) ≡ filled n (p ++ (e ∷ []))
+unfolding times
+filled-next zero p e h = absurd (omega arith)
+filled-next (suc n) [] e h =
+    let all : suc n - 0 ≡ suc n = omega arith in
+    let rest : suc n - 1 ≡ n = omega arith in
+    rw (all, rest) (ap₂ _∷_ (zero-add e) (empty-times n (emptyPattern n) (empty-length n)))
+filled-next (suc n) (f ∷ p) e h =
+    let left : suc n - suc (length p) ≡ n - length p = omega arith in
+    let less : suc n - suc (length (p ++ (e ∷ []))) ≡ n - length (p ++ (e ∷ [])) = omega arith in
+    rw (left, less) (ap₂ _∷_ (add-zero f) (filled-next n p e (omega arith)))

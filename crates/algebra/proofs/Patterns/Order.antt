@@ -1,13 +1,13 @@
 -- The term order is a strict total order, and is kept by multiplication with a pattern.
-use mathlib.Core.Path.{_≡_, refl, sym, _∙_, ap₂}
-use mathlib.Core.List.{[], _∷_}
-use Prim.Native.Nat.{ℕ, _<_, compare, Ordering, Ordering·lt, Ordering·eq, Ordering·gt}
+use mathlib.Core.Path.{_≡_, refl, sym, _∙_, ap, ap₂}
+use mathlib.Core.List.{[], _∷_, _++_}
+use Prim.Native.Nat.{ℕ, _-_, _<_, compare, Ordering, Ordering·lt, Ordering·eq, Ordering·gt}
 use native.Mathlib.Omega.{arith}
 use lib.Dec.{T, eqb, eqb→eq, eqb-refl}
 use lib.ListN.{length}
-use Rattle.algebra.specs.Pattern.{Pattern, times, degree, same, thenBy, byPowers, order}
+use Rattle.algebra.specs.Pattern.{Pattern, emptyPattern, filled, times, degree, same, thenBy, byPowers, order}
 use Rattle.algebra.proofs.Numbers.Test.{and, and-l, and-r}
-use Rattle.algebra.proofs.Patterns.Laws.{degree-times}
+use Rattle.algebra.proofs.Patterns.Laws.{degree-times, filled-degree}
 use Rattle.algebra.proofs.Numbers.Compare.{Says, compare-says, compare-is, compare-eq, turn, compare-turn, compare-add}
 
 -- ---- The test that two patterns are the same.
@@ -134,3 +134,17 @@ pub order-times : (u p q : Pattern) → length p ≡ length q → length u ≡ l
 unfolding order
 order-times u p q h k =
     ap₂ thenBy (ap₂ compare (degree-times u q) (degree-times u p) ∙ compare-add (degree u) (degree q) (degree p)) (powers-times u p q h k)
+
+-- ---- Patterns that are filled up with exponents 0 stand as before.
+
+powers-append : (p q r : Pattern) → length p ≡ length q → byPowers (p ++ r) (q ++ r) ≡ byPowers p q
+unfolding byPowers
+powers-append [] [] r h = powers-self r
+powers-append [] (f ∷ q) r h = absurd (omega arith)
+powers-append (e ∷ p) [] r h = absurd (omega arith)
+powers-append (e ∷ p) (f ∷ q) r h = ap (thenBy (compare f e)) (powers-append p q r (omega arith))
+
+pub order-filled : (n : ℕ) (p q : Pattern) → length p ≡ length q → order (filled n p) (filled n q) ≡ order p q
+unfolding order
+order-filled n p q h =
+    rw (filled-degree n p, filled-degree n q, ← h) (ap (thenBy (compare (degree q) (degree p))) (powers-append p q (emptyPattern (n - length p)) h))

@@ -2,14 +2,17 @@
 use mathlib.Core.Path.{_≡_, refl, sym, _∙_, ap, ap₂, subst}
 use Prim.Native.Nat.{ℕ, suc, _+_, _*_, _^_, _/_, _%_, _-_, _≤_, _<_, compare}
 use native.Mathlib.Omega.{arith}
+use borrow.Author.Tests.{eq-eqb}
+use lib.Dec.{T, eqb, leb, eqb→eq, leb→le, le→leb}
 use lib.ListN.{length, set, length-set}
 use lib.Pow.{shl-exact}
 use lib.Seq.{set-getD}
 use Rattle.algebra.specs.Limits.{variables, largestDegree}
 use Rattle.algebra.specs.Pattern.{Pattern, emptyPattern, times, degree, exponent, lowered, thenBy, order}
-use Rattle.algebra.specs.Word.{fieldSize, word, exponents, Valid}
+use Rattle.algebra.specs.Word.{fieldSize, word, exponents, isValid, Valid}
+use Rattle.algebra.proofs.Numbers.Test.{and, and-l, and-r}
 use Rattle.algebra.proofs.Patterns.Laws.{times-length, degree-times, empty-degree, set-degree}
-use Rattle.algebra.proofs.Patterns.Fields.{below-degree, fields-below, fields-length, word-lt, fields-word, word-fields-lt, field-at, place-bits, word-zero, word-times, word-degree, order-word, word-lowered}
+use Rattle.algebra.proofs.Patterns.Fields.{below-degree, fields-below, fields-length, word-lt, fields-word, word-fields-lt, field-at, place-bits, word-zero, word-alone, word-times, word-degree, order-word, word-lowered}
 
 -- ---- There and back.
 
@@ -44,6 +47,24 @@ exponents-empty = rw word-empty at (exponents-word (emptyPattern variables) refl
 
 pub empty-valid : Valid 0
 empty-valid = rw word-empty at (word-valid (emptyPattern variables) refl (omega (arith, empty-degree variables)))
+
+-- the test and the statement say the same, and of a word of 64 bits the degree decides
+pub valid-test : (w : ℕ) → Valid w → T (isValid w)
+unfolding isValid
+valid-test w a =
+    and (eqb (word (exponents w)) w) (leb (degree (exponents w)) largestDegree)
+    (rw (eq-eqb (word (exponents w)) w (a .is)) tt) (le→leb (degree (exponents w)) largestDegree (a .low))
+
+pub test-valid : (w : ℕ) → T (isValid w) → Valid w
+unfolding isValid
+test-valid w h = record {
+  is = eqb→eq (word (exponents w)) w (and-l (eqb (word (exponents w)) w) (leb (degree (exponents w)) largestDegree) h);
+  low = leb→le (degree (exponents w)) largestDegree (and-r (eqb (word (exponents w)) w) (leb (degree (exponents w)) largestDegree) h);
+}
+
+pub low-decides : (w : ℕ) → w < 2 ^ 64 → isValid w ≡ leb (degree (exponents w)) largestDegree
+unfolding isValid
+low-decides w small = rw (eq-eqb (word (exponents w)) w (word-exponents w small))
 
 -- the exponents tell two valid words apart
 pub valid-one : (v w : ℕ) → Valid v → Valid w → exponents v ≡ exponents w → v ≡ w
@@ -95,6 +116,14 @@ place v h = place-bits 8 (variables - suc v) ∙ ap (λ (k : ℕ). 2 ^ k) (omega
 pub one-shifted : (v k : ℕ) → v < variables → k ≡ bitsBelow v → 1 * 2 ^ k % 2 ^ 64 ≡ 2 ^ bitsBelow v
 one-shifted v k h e = shl-exact {a = 1} 1 k 64 (omega arith) (omega arith) ∙ ap (λ (i : ℕ). 1 * 2 ^ i) e ∙ omega arith
 
+-- the power e of v alone is e shifted by these bits
+pub alone-shifted : (v e k : ℕ) → v < variables → e ≤ largestDegree → k ≡ bitsBelow v → e * 2 ^ k % 2 ^ 64 ≡ word (set (emptyPattern variables) v e)
+unfolding word
+alone-shifted v e k h low bits =
+    shl-exact {a = e} 6 k 64 (omega arith) (omega arith)
+    ∙ ap (λ (i : ℕ). e * i) (ap (λ (i : ℕ). 2 ^ i) bits ∙ sym (place v h))
+    ∙ sym (word-alone fieldSize variables v e h)
+
 module _ (w v : ℕ) (inside : v < variables) where
   pub exponent-bits : exponent v (exponents w) ≡ w / 2 ^ bitsBelow v % fieldSize
   unfolding exponents
@@ -117,3 +146,7 @@ module _ (w v : ℕ) (inside : v < variables) where
   lowered-none a h =
       let stays : exponent v (exponents w) - 1 ≡ exponent v (exponents w) = omega arith in
       ap (λ (e : ℕ). word (set (exponents w) v e)) stays ∙ ap word (set-getD (exponents w) v 0) ∙ a .is
+
+-- any word's exponents are bytes
+pub exponent-small : (w v : ℕ) → v < variables → exponent v (exponents w) ≤ 255
+exponent-small w v inside = rw (exponent-bits w v inside) (omega arith)

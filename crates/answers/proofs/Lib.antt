@@ -1,0 +1,6 @@
+-- The laws that other crates cite; the proofs of the functions stand beside them, a folder each.
+pub mod Outcomes
+pub mod Writes
+pub mod Copies
+pub mod Unique
+pub mod Tables

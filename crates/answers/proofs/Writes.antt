@@ -1,0 +1,27 @@
+-- An area that is written place by place, from the front.
+use mathlib.Core.Path.{_≡_, refl, sym, _∙_, ap}
+use mathlib.Core.List.{List, [], _∷_, _++_}
+use Prim.Native.Nat.{ℕ, suc, _+_, _≤_, _<_}
+use native.Mathlib.Omega.{arith}
+use lib.ListN.{length, getD, take, drop, set, length-append}
+use lib.Seq.{set-at, take-at, drop-cons, append-snoc}
+use Rattle.answers.specs.Areas.{written}
+
+module _ {A : Type 0} where
+  -- the next place gets the next value
+  pub written-next : (values area : List A) (v : A) → length values < length area
+      → set (written values area) (length values) v ≡ written (values ++ (v ∷ [])) area
+  written-next values area v h =
+      let k = length values in
+      let last : length (values ++ (v ∷ [])) ≡ suc k = omega (arith, length-append values (v ∷ [])) in
+      ap (λ l. set (values ++ l) k v) (drop-cons area k v h)
+      ∙ set-at values (getD area k v) (drop (suc k) area) v k refl
+      ∙ sym (append-snoc values v (drop (suc k) area))
+      ∙ ap (λ (i : ℕ). (values ++ (v ∷ [])) ++ drop i area) (sym last)
+
+  -- what was written stands in the first places
+  pub written-front : (values area : List A) {area' : List A} {count : ℕ} → area' ≡ written values area → length values ≡ count
+      → (take count area' ≡ values) × (count ≤ length area')
+  written-front values area {area'} {count} are many =
+      let rest = drop (length values) area in
+      (ap (take count) are ∙ take-at values rest count many, omega (arith, ap length are, length-append values rest))
