@@ -1,0 +1,47 @@
+-- Each public function's contract leaves one outcome, as its caller sees it: the result, and what it finds in an area that it lent.
+use mathlib.Core.Path.{_≡_, refl, sym, ap, _∙_}
+use Prim.Native.Nat.{ℕ}
+use denote.Ref.{now}
+use Rattle.answers.proofs.Outcomes.{One, OneLent, same}
+use Rattle.numbers.specs.Item.{Item, Item.got, Item.cut, Item.bad}
+use Rattle.numbers.specs.Read.{itemOf}
+use Rattle.numbers.specs.declared.Read.{Read}
+use Rattle.numbers.specs.declared.Read.the-variants.{Value, Cut, Bad}
+use Rattle.numbers.proofs.read_number.Reads as read-number
+use Rattle.numbers.proofs.write_number.Reads as write-number
+use Rattle.numbers.proofs.code.Reads as code
+use Rattle.numbers.proofs.decode.Reads as decode
+use Rattle.numbers.proofs.absolute.Reads as absolute
+
+-- ---- Different answers say different things.
+
+answerOf : Item ℕ → Read
+answerOf (got v next) = Value v next
+answerOf (cut place) = Cut place
+answerOf (bad place) = Bad place
+
+answer-of : (r : Read) → answerOf (itemOf r) ≡ r
+unfolding answerOf
+answer-of (Value v next) = refl
+answer-of (Cut place) = refl
+answer-of (Bad place) = refl
+
+pub item-one : (r r' : Read) → itemOf r ≡ itemOf r' → r ≡ r'
+item-one r r' h = sym (answer-of r) ∙ ap answerOf h ∙ answer-of r'
+
+-- ---- The functions.
+
+pub read-number-one : One read-number.Learnt
+read-number-one k a r r' e e' h h' = item-one r r' (same h h')
+
+pub write-number-one : OneLent write-number.Learnt (λ k e. now (e .0))
+write-number-one k a r r' e e' h h' = (same (h .0) (h' .0), same (h .1) (h' .1))
+
+pub code-one : One code.Learnt
+code-one k a r r' e e' h h' = same h h'
+
+pub decode-one : One decode.Learnt
+decode-one k a r r' e e' h h' = same h h'
+
+pub absolute-one : One absolute.Learnt
+absolute-one k a r r' e e' h h' = same h h'
