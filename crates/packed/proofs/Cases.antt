@@ -1,0 +1,126 @@
+-- Packed sums, faults and their places: one table, which the checker computes.
+use mathlib.Core.Path.{_≡_, refl}
+use mathlib.Core.List.{List, [], _∷_, _++_}
+use Prim.Native.Nat.{ℕ, _-_, _^_}
+use lib.IntN.{ℤ, pos, negsuc}
+use lib.ListN.{length, replicate}
+use Rattle.answers.proofs.Tables.{Each, _also_}
+use Rattle.algebra.specs.Limits.{variables}
+use Rattle.algebra.specs.Pattern.{degree, thenBy, byPowers, order}
+use Rattle.algebra.specs.Sum.{term, Sum, weight}
+use Rattle.algebra.specs.Word.{wordOf, fieldsOf, termsBy, word, exponents, terms, isValid}
+use Rattle.answers.specs.Refusals.{ROOM, SHAPE, SUM}
+use Rattle.answers.specs.Answers.{Told, Told.done, Told.refused, outcome}
+use Rattle.answers.specs.Areas.{written}
+use Rattle.numbers.specs.Item.{Item, Item.got, Item.cut, Item.bad, andThen, provided, mapped}
+use Rattle.numbers.specs.Number.{groupsOf, numberBytes, readByte, readGroups, readNumber}
+use Rattle.numbers.specs.Code.{code, decode}
+use Rattle.packed.specs.Packed.{exponentBytes, termBytes, bytesOfTerms, packed}
+use Rattle.packed.specs.Judge.{weighs, follows}
+use Rattle.packed.specs.ReadSum.{readCoefficient, readExponents, readTerm, readTerms, readSum, readWhole}
+use Rattle.packed.specs.Whole.{withSum}
+use Rattle.packed.specs.Unpack.{unpack}
+use Rattle.packed.specs.Pack.{isGood, goodTerms, pack}
+
+-- ---- A case says how a sum is packed and read again, how bytes are read that are at fault, or what an operation answers.
+
+pub data Case : Type 0 where
+  packs : Sum → List ℕ → Case
+  faulty : List ℕ → Item Sum → Case
+  -- packed bytes, the lengths of the two areas, the answer, and what is written to the areas
+  unpacking : List ℕ → ℕ → ℕ → Told → List ℕ → List ℤ → Case
+  -- count, words, coefficients, the length of the result area, the answer, and what is written to it
+  packing : ℕ → List ℕ → List ℤ → ℕ → Told → List ℕ → Case
+
+-- every place of an area holds 7 before
+abbrev pub Says : Case → Type 0
+Says (packs s bytes) = (packed s ≡ bytes) × (readWhole variables bytes ≡ got s (length bytes))
+Says (faulty bytes item) = readWhole variables bytes ≡ item
+Says (unpacking bytes m n t ws cs) = unpack bytes (replicate m 7) (replicate n (pos 7)) ≡ outcome t (written ws (replicate m 7), written cs (replicate n (pos 7)))
+Says (packing count ws cs n t bytes) = pack count ws cs (replicate n 7) ≡ outcome t (written bytes (replicate n 7))
+
+-- ---- Short names.
+
+-- n exponents 0
+none : ℕ → List ℕ
+none n = replicate n 0
+
+-- 2^62 as a coefficient, and as a number in groups
+largest : ℤ
+largest = pos (2 ^ 62)
+
+largestBytes : List ℕ
+largestBytes = replicate 9 128 ++ (1 ∷ [])
+
+-- ---- The table.
+
+pub table : List Case
+unfolding none largest largestBytes
+table =
+    packs [] (0 ∷ [])
+    -- a² + 2ab, which is `(a+b)^2-b^2`
+    ∷ packs
+    (term (pos 1) (2 ∷ none 7) ∷ term (pos 2) (1 ∷ 1 ∷ none 6) ∷ [])
+    (2 ∷ 2 ∷ 2 ∷ 0 ∷ 0 ∷ 0 ∷ 0 ∷ 0 ∷ 0 ∷ 0 ∷ 4 ∷ 1 ∷ 1 ∷ 0 ∷ 0 ∷ 0 ∷ 0 ∷ 0 ∷ 0 ∷ [])
+    -- a^60, and the largest weight
+    ∷ packs (term (pos 1) (60 ∷ none 7) ∷ []) (1 ∷ 2 ∷ 60 ∷ none 7)
+    ∷ packs (term largest (none 8) ∷ []) (1 ∷ largestBytes ++ none 8)
+    ∷ packs (term (pos (2 ^ 62 - 1)) (1 ∷ none 7) ∷ term (negsuc 0) (none 8) ∷ []) (2 ∷ 254 ∷ replicate 7 255 ++ (127 ∷ 1 ∷ none 7) ++ (1 ∷ none 8))
+    -- the bytes end before an item, or inside it
+    ∷ faulty [] (cut 0)
+    ∷ faulty (1 ∷ 2 ∷ none 7) (cut 9)
+    ∷ faulty (1 ∷ 130 ∷ []) (cut 2)
+    -- a number not in its shortest form, a tenth group of 2 as the last byte there is, and one that says that more follow
+    ∷ faulty (1 ∷ 130 ∷ 0 ∷ none 8) (bad 1)
+    ∷ faulty (1 ∷ replicate 9 128 ++ (2 ∷ [])) (bad 1)
+    ∷ faulty (1 ∷ replicate 9 128 ++ (129 ∷ 0 ∷ [])) (bad 1)
+    -- a count of 129, with nothing after it
+    ∷ faulty (129 ∷ 1 ∷ []) (bad 0)
+    -- a coefficient 0, and a total above 2^62, judged before the exponents are looked at
+    ∷ faulty (1 ∷ 0 ∷ []) (bad 1)
+    ∷ faulty (2 ∷ largestBytes ++ (1 ∷ none 7) ++ (2 ∷ [])) (bad 19)
+    -- the code of -2^63
+    ∷ faulty (1 ∷ replicate 9 255 ++ (1 ∷ none 8)) (bad 1)
+    -- exponents that add up to 61, at the exponent that makes them so; 1 and 2^64 - 1
+    ∷ faulty (1 ∷ 2 ∷ 60 ∷ 1 ∷ []) (bad 3)
+    ∷ faulty (1 ∷ 2 ∷ 1 ∷ replicate 9 255 ++ (1 ∷ none 6)) (bad 3)
+    -- a pattern that stands twice, and one too late; with a last exponent that is missing or too large that is the fault
+    ∷ faulty (2 ∷ 2 ∷ (1 ∷ none 7) ++ (2 ∷ 1 ∷ none 7)) (bad 10)
+    ∷ faulty (2 ∷ 2 ∷ none 8 ++ (2 ∷ 1 ∷ none 7)) (bad 10)
+    ∷ faulty (2 ∷ 2 ∷ none 8 ++ (2 ∷ 1 ∷ none 6)) (cut 18)
+    ∷ faulty (2 ∷ 2 ∷ (1 ∷ none 7) ++ (2 ∷ 1 ∷ none 6)) (cut 18)
+    ∷ faulty (2 ∷ 2 ∷ (1 ∷ none 7) ++ (2 ∷ 1 ∷ none 6) ++ (60 ∷ [])) (bad 18)
+    -- bytes left over
+    ∷ faulty (0 ∷ 0 ∷ []) (bad 1)
+    -- 3b - 1, in areas of 128 and 129 places, of which the others stay; ROOM comes before SUM; cut and damaged records are both SUM
+    ∷ unpacking (2 ∷ 6 ∷ 0 ∷ 1 ∷ none 6 ++ (1 ∷ none 8)) 128 129 (done 2) (2 ^ 48 ∷ 0 ∷ []) (pos 3 ∷ negsuc 0 ∷ [])
+    ∷ unpacking (0 ∷ []) 128 128 (done 0) [] []
+    ∷ unpacking [] 127 128 (refused ROOM 0) [] []
+    ∷ unpacking [] 128 127 (refused ROOM 0) [] []
+    ∷ unpacking [] 128 128 (refused SUM 0) [] []
+    ∷ unpacking (1 ∷ 2 ∷ none 9) 128 128 (refused SUM 10) [] []
+    -- places beyond the count are not looked at; ROOM comes before SHAPE, SHAPE before SUM
+    ∷ packing 2 (2 ^ 48 ∷ 0 ∷ 61 ∷ []) (pos 3 ∷ negsuc 0 ∷ pos 0 ∷ []) 2307 (done 19) (2 ∷ 6 ∷ 0 ∷ 1 ∷ none 6 ++ (1 ∷ none 8))
+    ∷ packing 0 [] [] 2306 (done 1) (0 ∷ [])
+    ∷ packing 129 [] [] 2305 (refused ROOM 0) []
+    ∷ packing 129 (replicate 129 0) (replicate 129 (pos 1)) 2306 (refused SHAPE 0) []
+    ∷ packing 1 [] (pos 0 ∷ []) 2306 (refused SHAPE 0) []
+    ∷ packing 1 (0 ∷ []) [] 2306 (refused SHAPE 0) []
+    -- a bad term: a zero coefficient, a total above 2^62, -2^63, degree 61, wrong order
+    ∷ packing 2 (1 ∷ 0 ∷ []) (pos 5 ∷ pos 0 ∷ []) 2306 (refused SUM 1) []
+    ∷ packing 2 (1 ∷ 0 ∷ []) (largest ∷ negsuc 0 ∷ []) 2306 (refused SUM 1) []
+    ∷ packing 1 (0 ∷ []) (negsuc (2 ^ 63 - 1) ∷ []) 2306 (refused SUM 0) []
+    ∷ packing 1 (61 ∷ []) (pos 5 ∷ []) 2306 (refused SUM 0) []
+    ∷ packing 2 (0 ∷ 1 ∷ []) (pos 5 ∷ pos 5 ∷ []) 2306 (refused SUM 1) []
+    ∷ []
+
+pub cases-hold : Each Says table
+unfolding table none largest largestBytes andThen provided mapped groupsOf numberBytes readByte readGroups readNumber code decode exponentBytes termBytes bytesOfTerms packed weighs follows degree thenBy byPowers order weight readCoefficient readExponents readTerm readTerms readSum readWhole withSum unpack isGood goodTerms pack wordOf fieldsOf termsBy word exponents terms isValid
+cases-hold =
+    (refl, refl) also (refl, refl) also (refl, refl) also (refl, refl) also (refl, refl)
+    also refl also refl also refl also refl also refl also refl also refl also refl also refl
+    also refl also refl also refl also refl also refl also refl also refl also refl also refl
+    also refl also refl also refl also refl also refl also refl
+    also refl also refl also refl also refl also refl also refl
+    also refl also refl also refl also refl also refl
+    also tt

@@ -1,0 +1,210 @@
+-- The operations `pack` and `unpack`, as their callers see them: exactly when each is done, and that each undoes the other.
+use mathlib.Core.Path.{_≡_, refl, sym, _∙_, ap, ap₂}
+use mathlib.Core.Bool.{Bool, true, false, _&&_}
+use mathlib.Core.List.{List, [], _∷_}
+use Prim.Native.Nat.{ℕ, zero, suc, _≤_, _<_}
+use native.Mathlib.Omega.{arith}
+use lib.Dec.{T, leb, eqb, leb→le, eqb→eq}
+use lib.IntN.{ℤ}
+use lib.ListN.{length, getD, take, length-map}
+use lib.Seq.{length-take-le}
+use Rattle.algebra.specs.Limits.{variables, largestDegree, mostTerms}
+use Rattle.algebra.specs.Pattern.{Pattern, degree}
+use Rattle.algebra.specs.Sum.{term, Sum}
+use Rattle.algebra.specs.Word.{word, exponents, termsBy, terms, Valid}
+use Rattle.algebra.proofs.Numbers.Test.{and-l, and-r}
+use Rattle.algebra.proofs.Patterns.Word.{word-valid, exponents-word, exponents-length}
+use Rattle.algebra.proofs.Patterns.Laws.{filled-all}
+use Rattle.algebra.proofs.Patterns.Held.{held-coefficients, held-words}
+use Rattle.algebra.proofs.Sums.Every.{Every, Long, UpTo, degree-every}
+use Rattle.algebra.proofs.Sums.Ordered.{parts}
+use Rattle.answers.specs.Answers.{Told.done, Told.refused, Outcome, outcome, check}
+use Rattle.answers.specs.Areas.{written}
+use Rattle.answers.proofs.Writes.{written-front}
+use Rattle.numbers.specs.Item.{Item, Item.got, Item.cut, Item.bad}
+use Rattle.packed.specs.Packed.{packed, mostBytes}
+use Rattle.packed.specs.Accepted.{Accepted}
+use Rattle.packed.specs.ReadSum.{readWhole}
+use Rattle.packed.specs.Pack.{goodTerms, pack}
+use Rattle.packed.specs.Held.{wordFor, wordsOf, coefficientsOf, firstTerms}
+use Rattle.packed.specs.Whole.{withSum}
+use Rattle.packed.specs.Unpack.{unpack}
+use Rattle.packed.proofs.Good.{AllValid, accepted-good, good-terms}
+use Rattle.packed.proofs.Trip.{whole-read, whole-written}
+use Rattle.packed.proofs.Front.{front-length}
+use Rattle.packed.proofs.Unpacking.{has-room}
+use Rattle.packed.proofs.Packing.{Passed, all-good, accepted}
+
+-- ---- Outcomes.
+
+refused-done : {r place k : ℕ} → refused r place ≡ done k → ⊥
+refused-done e = let z : _≡_ {A = ℕ} 0 1 = cc in absurd (omega arith)
+
+module _ {Areas : Type 0} {k : ℕ} {y : Areas} where
+  -- where a test refuses, an operation that is done has passed it
+  done-passed : (b : Bool) (x : Outcome Areas) (r place : ℕ) (a : Areas) → check b r place a x ≡ outcome (done k) y → T b × (x ≡ outcome (done k) y)
+  done-passed true x r place a e = (tt, e)
+  done-passed false x r place a e = absurd (refused-done (ap (λ o. o .answer) e))
+
+  done-same : {j : ℕ} {x : Areas} → outcome (done j) x ≡ outcome (done k) y → (j ≡ k) × (x ≡ y)
+  done-same {j} e = (let told : done j ≡ done k = ap (λ o. o .answer) e in cc, ap (λ o. o .areas) e)
+
+-- ---- A sum's words and coefficients.
+
+-- a pattern of all variables is filled
+word-for : (p : Pattern) → length p ≡ variables → wordFor p ≡ word p
+word-for p long = ap word (filled-all variables p long)
+
+exponents-for : (p : Pattern) → length p ≡ variables → degree p ≤ largestDegree → exponents (wordFor p) ≡ p
+exponents-for p long low = ap exponents (word-for p long) ∙ exponents-word p long low
+
+-- within the limits they hold its terms
+terms-again : (s : Sum) → Every (Long variables) s → Every (UpTo largestDegree) s → terms (wordsOf s) (coefficientsOf s) ≡ s
+unfolding terms termsBy
+terms-again [] long low = refl
+terms-again (t ∷ s) long low =
+    ap₂ (λ (p : Pattern) (l : Sum). term (t .coefficient) p ∷ l) (exponents-for (t .pattern) (long .0) (low .0)) (terms-again s (long .1) (low .1))
+
+-- ---- `unpack` is done exactly with the bytes of an accepted sum.
+
+pub unpack-accepts : (s : Sum) (ws : List ℕ) (cs : List ℤ) → Accepted variables s → mostTerms ≤ length ws → mostTerms ≤ length cs
+    → unpack (packed s) ws cs ≡ outcome (done (length s)) (written (wordsOf s) ws, written (coefficientsOf s) cs)
+unfolding withSum
+unpack-accepts s ws cs a words-room coefficients-room = has-room (packed s) ws cs words-room coefficients-room ∙ rw (whole-read variables s a)
+
+-- the bytes are those of a sum, and the two areas hold its terms
+pub record Unpacks (bytes ws : List ℕ) (cs : List ℤ) (count : ℕ) (ws' : List ℕ) (cs' : List ℤ) : Type 0 where
+  pub sum : Sum
+  pub accepted : Accepted variables sum
+  pub bytes-are : bytes ≡ packed sum
+  pub many : length sum ≡ count
+  pub words-are : ws' ≡ written (wordsOf sum) ws
+  pub coefficients-are : cs' ≡ written (coefficientsOf sum) cs
+  pub words-room : mostTerms ≤ length ws
+  pub coefficients-room : mostTerms ≤ length cs
+
+pub unpack-accepted : {bytes ws : List ℕ} {cs : List ℤ} {count : ℕ} {ws' : List ℕ} {cs' : List ℤ} → ((i : ℕ) → getD bytes i 0 < 256)
+    → unpack bytes ws cs ≡ outcome (done count) (ws', cs') → Unpacks bytes ws cs count ws' cs'
+unfolding unpack withSum
+unpack-accepted {bytes} {ws} {cs} {count} {ws'} {cs'} byte e =
+    let words-fit = leb mostTerms (length ws) in
+    let coefficients-fit = leb mostTerms (length cs) in
+    let room = done-passed (words-fit && coefficients-fit) _ _ _ _ e in
+    let words-room = leb→le mostTerms (length ws) (and-l words-fit coefficients-fit (room .0)) in
+    let coefficients-room = leb→le mostTerms (length cs) (and-r words-fit coefficients-fit (room .0)) in
+    go words-room coefficients-room (readWhole variables bytes) refl (room .1)
+  where
+    go : mostTerms ≤ length ws → mostTerms ≤ length cs → (r : Item Sum) → readWhole variables bytes ≡ r
+        → withSum {Areas = List ℕ × List ℤ} r (ws, cs) (λ s. outcome (done (length s)) (written (wordsOf s) ws, written (coefficientsOf s) cs))
+        ≡ outcome (done count) (ws', cs')
+        → Unpacks bytes ws cs count ws' cs'
+    go words-room coefficients-room (got s end) read e =
+        let was = whole-written bytes byte variables s end read in
+        let same = done-same e in
+        record {
+          sum = s;
+          accepted = was .1;
+          bytes-are = was .0;
+          many = same .0;
+          words-are = ap (λ x. x .0) (sym (same .1));
+          coefficients-are = ap (λ x. x .1) (sym (same .1));
+          words-room = words-room;
+          coefficients-room = coefficients-room;
+        }
+    go words-room coefficients-room (cut place) read e = absurd (refused-done (ap (λ o. o .answer) e))
+    go words-room coefficients-room (bad place) read e = absurd (refused-done (ap (λ o. o .answer) e))
+
+-- ---- `pack` is done exactly with the terms of an accepted sum.
+
+pub pack-accepts : (s : Sum) (count : ℕ) (ws : List ℕ) (cs : List ℤ) (area : List ℕ) → Accepted variables s → AllValid (take count ws) → firstTerms count ws cs ≡ s
+    → count ≤ length ws → count ≤ length cs → mostBytes variables ≤ length area
+    → pack count ws cs area ≡ outcome (done (length (packed s))) (written (packed s) area)
+pack-accepts s count ws cs area a valid held words coefficients room =
+    let many : length s ≡ count = ap length (sym held) ∙ front-length count ws cs words coefficients in
+    let long = length-take-le count ws words in
+    let alike : length (take count ws) ≡ length (take count cs) = long ∙ sym (length-take-le count cs coefficients) in
+    let passed : Passed count ws cs area = record { room = room; few = omega (arith, many, a .few); words = words; coefficients = coefficients } in
+    let all-good' = good-terms [] (take count ws) (take count cs) valid alike (rw held (accepted-good variables s a)) ∙ long in
+    sym (all-good passed all-good') ∙ rw held
+
+-- the words are valid, the terms make a sum, and the area holds its bytes
+pub record Packs (count : ℕ) (ws : List ℕ) (cs : List ℤ) (area : List ℕ) (length-done : ℕ) (area' : List ℕ) : Type 0 where
+  pub valid : AllValid (take count ws)
+  pub accepted : Accepted variables (firstTerms count ws cs)
+  pub words : count ≤ length ws
+  pub coefficients : count ≤ length cs
+  pub room : mostBytes variables ≤ length area
+  pub many : length (packed (firstTerms count ws cs)) ≡ length-done
+  pub area-is : area' ≡ written (packed (firstTerms count ws cs)) area
+
+pub pack-accepted : {count : ℕ} {ws : List ℕ} {cs : List ℤ} {area : List ℕ} {length-done : ℕ} {area' : List ℕ}
+    → pack count ws cs area ≡ outcome (done length-done) area' → Packs count ws cs area length-done area'
+unfolding pack
+pack-accepted {count} {ws} {cs} {area} e =
+    let words-fit = leb count (length ws) in
+    let coefficients-fit = leb count (length cs) in
+    let room = done-passed (leb (mostBytes variables) (length area)) _ _ _ _ e in
+    let shape = done-passed (leb count mostTerms && (words-fit && coefficients-fit)) _ _ _ _ (room .1) in
+    let good = done-passed (eqb (goodTerms [] (take count ws) (take count cs)) count) _ _ _ _ (shape .1) in
+    let same = done-same (good .1) in
+    let both = and-r (leb count mostTerms) (words-fit && coefficients-fit) (shape .0) in
+    let passed : Passed count ws cs area = record {
+      room = leb→le (mostBytes variables) (length area) (room .0);
+      few = leb→le count mostTerms (and-l (leb count mostTerms) (words-fit && coefficients-fit) (shape .0));
+      words = leb→le count (length ws) (and-l words-fit coefficients-fit both);
+      coefficients = leb→le count (length cs) (and-r words-fit coefficients-fit both);
+    } in
+    let sum = accepted passed (eqb→eq (goodTerms [] (take count ws) (take count cs)) count (good .0)) in
+    record {
+      valid = sum .0;
+      accepted = sum .1;
+      words = passed .words;
+      coefficients = passed .coefficients;
+      room = passed .room;
+      many = same .0;
+      area-is = sym (same .1);
+    }
+
+-- ---- Each undoes the other.
+
+all-valid : (ws : List ℕ) → AllValid ws → (i : ℕ) → i < length ws → Valid (getD ws i 0)
+all-valid [] valid i h = absurd (omega arith)
+all-valid (w ∷ ws) valid zero h = valid .0
+all-valid (w ∷ ws) valid (suc i) h = all-valid ws (valid .1) i (omega arith)
+
+words-valid : (s : Sum) → Every (Long variables) s → Every (UpTo largestDegree) s → AllValid (wordsOf s)
+words-valid [] long low = tt
+words-valid (t ∷ s) long low = (rw (word-for (t .pattern) (long .0)) (word-valid (t .pattern) (long .0) (low .0)), words-valid s (long .1) (low .1))
+
+-- unpacking what was packed gives the terms again, in any areas with room
+pub pack-unpack : (count : ℕ) (ws : List ℕ) (cs : List ℤ) (area : List ℕ) (length-done : ℕ) (area' : List ℕ)
+    → pack count ws cs area ≡ outcome (done length-done) area'
+    → (ws₀ : List ℕ) (cs₀ : List ℤ) → mostTerms ≤ length ws₀ → mostTerms ≤ length cs₀
+    → unpack (take length-done area') ws₀ cs₀ ≡ outcome (done count) (written (take count ws) ws₀, written (take count cs) cs₀)
+unfolding terms
+pack-unpack count ws cs area length-done area' e ws₀ cs₀ words-room coefficients-room =
+    let p = pack-accepted e in
+    let s = firstTerms count ws cs in
+    let bytes : take length-done area' ≡ packed s = written-front (packed s) area (p .area-is) (p .many) .0 in
+    let long : length (take count ws) ≡ count = length-take-le count ws (p .words) in
+    let alike : length (take count ws) ≡ length (take count cs) = long ∙ sym (length-take-le count cs (p .coefficients)) in
+    let words : wordsOf s ≡ take count ws =
+    held-words exponents wordFor (take count ws) (take count cs) alike
+    (λ i h. word-for (exponents (getD (take count ws) i 0)) (exponents-length (getD (take count ws) i 0)) ∙ all-valid (take count ws) (p .valid) i h .is) in
+    let coefficients : coefficientsOf s ≡ take count cs = held-coefficients exponents (take count ws) (take count cs) alike in
+    rw bytes (rw (words, coefficients, front-length count ws cs (p .words) (p .coefficients)) at (unpack-accepts s ws₀ cs₀ (p .accepted) words-room coefficients-room))
+
+-- packing what was unpacked gives the bytes again, in any area with room
+pub unpack-pack : (bytes ws : List ℕ) (cs : List ℤ) (count : ℕ) (ws' : List ℕ) (cs' : List ℤ) → ((i : ℕ) → getD bytes i 0 < 256)
+    → unpack bytes ws cs ≡ outcome (done count) (ws', cs')
+    → (area : List ℕ) → mostBytes variables ≤ length area
+    → pack count ws' cs' area ≡ outcome (done (length bytes)) (written bytes area)
+unpack-pack bytes ws cs count ws' cs' byte e area room =
+    let u = unpack-accepted byte e in
+    let s = u .sum in
+    let words = written-front (wordsOf s) ws (u .words-are) (length-map s _ ∙ u .many) in
+    let coefficients = written-front (coefficientsOf s) cs (u .coefficients-are) (length-map s _ ∙ u .many) in
+    let long = parts variables s (u .accepted .isOrdered) .long in
+    let low = degree-every largestDegree s (u .accepted .low) in
+    let held = ap₂ terms (words .0) (coefficients .0) ∙ terms-again s long low in
+    rw (u .bytes-are) (pack-accepts s count ws' cs' area (u .accepted) (rw (words .0) (words-valid s long low)) held (words .1) (coefficients .1) room)

@@ -1,0 +1,29 @@
+-- Each public function's contract leaves one outcome, as its caller sees it: the answer, and every place of every lent area.
+use mathlib.Core.Path.{ap}
+use mathlib.Core.List.{List}
+use Prim.Native.Nat.{ℕ}
+use lib.IntN.{ℤ}
+use denote.Ref.{now}
+use Rattle.answers.proofs.Outcomes.{OneLent, same}
+use Rattle.answers.proofs.Unique.{outcome-one}
+use Rattle.numbers.proofs.Unique.{item-one}
+use Rattle.packed.proofs.read_sum.Reads as read-sum
+use Rattle.packed.proofs.unpack.Reads as unpack
+use Rattle.packed.proofs.pack.Reads as pack
+use Rattle.packed.proofs.writer.write_sum.Reads as write-sum
+
+-- the two operations
+pub unpack-one : OneLent unpack.Learnt {L = List ℕ × List ℤ} (λ k e. (now (e .1 .0), now (e .1 .1 .0)))
+unpack-one k a r r' e e' h h' = outcome-one r r' (same h h')
+
+pub pack-one : OneLent pack.Learnt (λ k e. now (e .1 .1 .1 .0))
+pack-one k a r r' e e' h h' = outcome-one r r' (same h h')
+
+-- what other crates call
+pub read-sum-one : OneLent read-sum.Learnt {L = List ℕ × List ℤ} (λ k e. (now (e .1 .1 .0), now (e .1 .1 .1 .0)))
+read-sum-one k a r r' e e' h h' =
+    let all = same h h' in
+    (item-one r r' (ap (λ x. x .0) all), ap (λ x. (x .1, x .2)) all)
+
+pub write-sum-one : OneLent write-sum.Learnt (λ k e. now (e .0))
+write-sum-one k a r r' e e' h h' = (same (h .0) (h' .0), same (h .1) (h' .1))

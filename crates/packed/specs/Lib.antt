@@ -1,0 +1,8 @@
+pub mod Packed
+pub mod Accepted
+pub mod Judge
+pub mod ReadSum
+pub mod Held
+pub mod Whole
+pub mod Unpack
+pub mod Pack
