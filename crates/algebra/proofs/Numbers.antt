@@ -4,3 +4,4 @@ pub mod Compare
 pub mod Whole
 pub mod Absolute
 pub mod Solve
+pub mod Signed

@@ -1,6 +1,7 @@
 -- Sums: collecting, what a sum says, and the operations on sums.
 pub mod Total
 pub mod Every
+pub mod Held
 pub mod Ordered
 pub mod Occurs
 pub mod Equal

@@ -9,6 +9,8 @@ use Rattle.algebra.specs.declared.Standing.{Standing}
 use Rattle.algebra.specs.declared.Standing.the-variants.{Before, Same, After}
 use Rattle.algebra.proofs.most_terms.Reads as most-terms
 use Rattle.algebra.proofs.largest_weight.Reads as largest-weight
+use Rattle.algebra.proofs.most_nodes.Reads as most-nodes
+use Rattle.algebra.proofs.work_places.Reads as work-places
 use Rattle.algebra.proofs.Pattern.variables.Reads as variables
 use Rattle.algebra.proofs.Pattern.largest_degree.Reads as largest-degree
 use Rattle.algebra.proofs.Pattern.empty.Reads as empty
@@ -47,6 +49,12 @@ most-terms-one k a r r' e e' h h' = same h h'
 
 pub largest-weight-one : One largest-weight.Learnt
 largest-weight-one k a r r' e e' h h' = same h h'
+
+pub most-nodes-one : One most-nodes.Learnt
+most-nodes-one k a r r' e e' h h' = same h h'
+
+pub work-places-one : One work-places.Learnt
+work-places-one k a r r' e e' h h' = same h h'
 
 pub variables-one : One variables.Learnt
 variables-one k a r r' e e' h h' = same h h'

@@ -8,4 +8,6 @@ pub mod Slope
 pub mod Substitute
 pub mod Margin
 pub mod Word
+pub mod Held
+pub mod Accepted
 pub mod Standing

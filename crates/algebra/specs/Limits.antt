@@ -1,5 +1,5 @@
 -- The numbers of document 01, each once. The code's constants are proved equal to them.
-use Prim.Native.Nat.{ℕ, _^_}
+use Prim.Native.Nat.{ℕ, _*_, _^_}
 
 -- the variables a to h
 abbrev pub variables : ℕ
@@ -16,3 +16,7 @@ largestWeight = 2 ^ 62
 
 abbrev pub mostNodes : ℕ
 mostNodes = 64
+
+-- the places of a work area: 128 for each node
+abbrev pub workPlaces : ℕ
+workPlaces = mostTerms * mostNodes

@@ -2,17 +2,22 @@
 ghost use mathlib.Core.Path.{_≡_};
 ghost use Prim.Native.Nat.{_+_, _*_, _-_, _≤_, _<_};
 ghost use lib.ListN.{set};
-ghost use Rattle.algebra.specs.Limits.{variables, largestDegree, mostTerms, largestWeight};
+ghost use Rattle.algebra.specs.Limits.{variables, largestDegree, mostTerms, largestWeight, mostNodes, workPlaces};
 ghost use Rattle.algebra.specs.Pattern.{emptyPattern, times, degree, exponent, lowered, order};
 ghost use Rattle.algebra.specs.Word.{word, exponents, isValid, Valid};
 ghost use Rattle.algebra.specs.Standing.{standing};
 
-// The limits of a sum. (Those of a pattern are the pattern's own.)
+// The limits of a sum and of a formula. (Those of a pattern are the pattern's own.)
 pub const MOST_TERMS: usize = 128;
 
 pub const LARGEST_WEIGHT: u64 = 4611686018427387904;
 
-// The next two tie them to the definitions.
+pub const MOST_NODES: usize = 64;
+
+// Each node has its own part of a work area.
+pub const WORK_PLACES: usize = MOST_TERMS * MOST_NODES;
+
+// The next four tie them to the definitions.
 pub fn most_terms() -> usize
     ensures { λ r. ⌜ r ≡ mostTerms ⌝ }
 {
@@ -23,6 +28,18 @@ pub fn largest_weight() -> u64
     ensures { λ r. ⌜ r ≡ largestWeight ⌝ }
 {
     LARGEST_WEIGHT
+}
+
+pub fn most_nodes() -> usize
+    ensures { λ r. ⌜ r ≡ mostNodes ⌝ }
+{
+    MOST_NODES
+}
+
+pub fn work_places() -> usize
+    ensures { λ r. ⌜ r ≡ workPlaces ⌝ }
+{
+    WORK_PLACES
 }
 
 // Where a pattern stands in the term order, seen from another one.

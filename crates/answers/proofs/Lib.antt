@@ -4,3 +4,4 @@ pub mod Writes
 pub mod Copies
 pub mod Unique
 pub mod Tables
+pub mod Signed

@@ -14,6 +14,8 @@ use Rattle.answers.proofs.Outcomes.{One, OneLent, same}
 use Rattle.answers.proofs.Refusal.number.Reads as refusal-number
 use Rattle.answers.proofs.areas.copy_words.Reads as copy-words
 use Rattle.answers.proofs.areas.copy_coefficients.Reads as copy-coefficients
+use Rattle.answers.proofs.areas.clear_words.Reads as clear-words
+use Rattle.answers.proofs.areas.clear_coefficients.Reads as clear-coefficients
 
 -- ---- Answers. Each is found again from what it tells.
 
@@ -67,3 +69,9 @@ copy-words-one k a r r' e e' h h' = (refl, same h h')
 
 pub copy-coefficients-one : OneLent copy-coefficients.Learnt (λ k e. now (e .0))
 copy-coefficients-one k a r r' e e' h h' = (refl, same h h')
+
+pub clear-words-one : OneLent clear-words.Learnt (λ k e. now (e .0))
+clear-words-one k a r r' e e' h h' = (refl, same h h')
+
+pub clear-coefficients-one : OneLent clear-coefficients.Learnt (λ k e. now (e .0))
+clear-coefficients-one k a r r' e e' h h' = (refl, same h h')

@@ -9,13 +9,9 @@ use borrow.Author.Tests.{leb-false}
 use mir.Syntax.{w64}
 use mir.Val.{SFits, ofZ, toZ}
 use mir.ValLaws.{toZ-ofZ, toZ-pos}
+use Rattle.answers.proofs.Signed.{fits-abs}
 
 -- ---- Ranges.
-
--- a bound on the absolute value, which omega reads, answers most needs of signed operations
-pub fits-abs : (z : ℤ) → natAbs z < 2 ^ 63 → SFits w64 z
-fits-abs (pos n) h = record { sfits = h }
-fits-abs (negsuc k) h = record { sfits = omega arith }
 
 -- -k
 minus-abs : (k : ℕ) → natAbs (negℤ (pos k)) ≡ k

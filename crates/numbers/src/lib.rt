@@ -94,7 +94,8 @@ pub fn absolute(n: i64) -> u64
     if n >= 0 {
         n as u64
     } else {
-        let k = -(n + 1);
-        (k as u64) + 1
+        let above = n + 1;
+        let less = -above;
+        (less as u64) + 1
     }
 }

@@ -9,7 +9,7 @@ use lib.Seq.{drop-cons, getD-take, length-take-le}
 use Rattle.algebra.specs.Sum.{Term, term, Sum}
 use Rattle.algebra.specs.Word.{exponents, terms}
 use Rattle.algebra.proofs.Patterns.Held.{held-length, held-at}
-use Rattle.packed.specs.Held.{firstTerms}
+use Rattle.algebra.specs.Held.{firstTerms}
 
 -- the term at a place
 abbrev pub at-place : List ℕ → List ℤ → ℕ → Term

@@ -15,7 +15,7 @@ use Rattle.algebra.proofs.Numbers.Test.{and, and-l, and-r, true-is}
 use Rattle.algebra.proofs.Patterns.Word.{exponents-length, valid-test, test-valid}
 use Rattle.algebra.proofs.Sums.Every.{Every, Long, UpTo, degree-every, every-degree}
 use Rattle.algebra.proofs.Sums.Ordered.{Parts, parts, whole, order-cons, order-head, order-tail, full-head, full-tail}
-use Rattle.packed.specs.Accepted.{Accepted}
+use Rattle.algebra.specs.Accepted.{Accepted}
 use Rattle.packed.specs.Judge.{weighs, follows}
 use Rattle.packed.specs.Pack.{isGood, goodTerms}
 

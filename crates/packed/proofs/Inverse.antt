@@ -9,13 +9,12 @@ use lib.IntN.{ℤ}
 use lib.ListN.{length, getD, take, length-map}
 use lib.Seq.{length-take-le}
 use Rattle.algebra.specs.Limits.{variables, largestDegree, mostTerms}
-use Rattle.algebra.specs.Pattern.{Pattern, degree}
-use Rattle.algebra.specs.Sum.{term, Sum}
-use Rattle.algebra.specs.Word.{word, exponents, termsBy, terms, Valid}
+use Rattle.algebra.specs.Sum.{Sum}
+use Rattle.algebra.specs.Word.{exponents, terms, Valid}
 use Rattle.algebra.proofs.Numbers.Test.{and-l, and-r}
-use Rattle.algebra.proofs.Patterns.Word.{word-valid, exponents-word, exponents-length}
-use Rattle.algebra.proofs.Patterns.Laws.{filled-all}
+use Rattle.algebra.proofs.Patterns.Word.{word-valid, exponents-length}
 use Rattle.algebra.proofs.Patterns.Held.{held-coefficients, held-words}
+use Rattle.algebra.proofs.Sums.Held.{word-for, terms-again}
 use Rattle.algebra.proofs.Sums.Every.{Every, Long, UpTo, degree-every}
 use Rattle.algebra.proofs.Sums.Ordered.{parts}
 use Rattle.answers.specs.Answers.{Told.done, Told.refused, Outcome, outcome, check}
@@ -23,10 +22,10 @@ use Rattle.answers.specs.Areas.{written}
 use Rattle.answers.proofs.Writes.{written-front}
 use Rattle.numbers.specs.Item.{Item, Item.got, Item.cut, Item.bad}
 use Rattle.packed.specs.Packed.{packed, mostBytes}
-use Rattle.packed.specs.Accepted.{Accepted}
+use Rattle.algebra.specs.Accepted.{Accepted}
 use Rattle.packed.specs.ReadSum.{readWhole}
 use Rattle.packed.specs.Pack.{goodTerms, pack}
-use Rattle.packed.specs.Held.{wordFor, wordsOf, coefficientsOf, firstTerms}
+use Rattle.algebra.specs.Held.{wordFor, wordsOf, coefficientsOf, firstTerms}
 use Rattle.packed.specs.Whole.{withSum}
 use Rattle.packed.specs.Unpack.{unpack}
 use Rattle.packed.proofs.Good.{AllValid, accepted-good, good-terms}
@@ -48,22 +47,6 @@ module _ {Areas : Type 0} {k : ℕ} {y : Areas} where
 
   done-same : {j : ℕ} {x : Areas} → outcome (done j) x ≡ outcome (done k) y → (j ≡ k) × (x ≡ y)
   done-same {j} e = (let told : done j ≡ done k = ap (λ o. o .answer) e in cc, ap (λ o. o .areas) e)
-
--- ---- A sum's words and coefficients.
-
--- a pattern of all variables is filled
-word-for : (p : Pattern) → length p ≡ variables → wordFor p ≡ word p
-word-for p long = ap word (filled-all variables p long)
-
-exponents-for : (p : Pattern) → length p ≡ variables → degree p ≤ largestDegree → exponents (wordFor p) ≡ p
-exponents-for p long low = ap exponents (word-for p long) ∙ exponents-word p long low
-
--- within the limits they hold its terms
-terms-again : (s : Sum) → Every (Long variables) s → Every (UpTo largestDegree) s → terms (wordsOf s) (coefficientsOf s) ≡ s
-unfolding terms termsBy
-terms-again [] long low = refl
-terms-again (t ∷ s) long low =
-    ap₂ (λ (p : Pattern) (l : Sum). term (t .coefficient) p ∷ l) (exponents-for (t .pattern) (long .0) (low .0)) (terms-again s (long .1) (low .1))
 
 -- ---- `unpack` is done exactly with the bytes of an accepted sum.
 

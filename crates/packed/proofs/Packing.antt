@@ -13,9 +13,9 @@ use Rattle.answers.specs.Refusals.{ROOM, SHAPE, SUM}
 use Rattle.answers.specs.Answers.{Told.done, Told.refused, outcome}
 use Rattle.answers.specs.Areas.{written}
 use Rattle.packed.specs.Packed.{packed, mostBytes}
-use Rattle.packed.specs.Accepted.{Accepted}
+use Rattle.algebra.specs.Accepted.{Accepted}
 use Rattle.packed.specs.Pack.{goodTerms, pack}
-use Rattle.packed.specs.Held.{firstTerms}
+use Rattle.algebra.specs.Held.{firstTerms}
 use Rattle.packed.proofs.Good.{AllValid, good-accepted, good-most, terms-good}
 use Rattle.packed.proofs.Sizes.{packed-most}
 use Rattle.packed.proofs.Front.{front-length}

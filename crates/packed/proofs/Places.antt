@@ -19,7 +19,7 @@ use Rattle.numbers.proofs.Numbers.{number-written, number-cut, number-bad, numb
 use Rattle.answers.specs.Refusals.{ROOM}
 use Rattle.answers.specs.Answers.{Told.done, Told.refused, outcome, check}
 use Rattle.answers.specs.Areas.{written}
-use Rattle.packed.specs.Held.{wordsOf, coefficientsOf}
+use Rattle.algebra.specs.Held.{wordsOf, coefficientsOf}
 use Rattle.packed.specs.Whole.{withSum}
 use Rattle.packed.specs.Unpack.{unpack}
 use Rattle.packed.specs.Packed.{mostTermBytes, mostBytes}

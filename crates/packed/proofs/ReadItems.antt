@@ -21,7 +21,7 @@ use Rattle.numbers.proofs.Items.{then-got, mapped-id, mapped-mapped, provided-y
 use Rattle.numbers.proofs.Codes.{code-decode, decode-fits}
 use Rattle.packed.specs.Judge.{weighs}
 use Rattle.packed.specs.ReadSum.{readCoefficient, readExponents}
-use Rattle.packed.specs.Held.{wordFor}
+use Rattle.algebra.specs.Held.{wordFor}
 use Rattle.packed.proofs.Good.{no-size, some-size, weighs-some, weighs-light, weighs-is}
 
 -- ---- A coefficient.

@@ -13,7 +13,7 @@ use Rattle.numbers.specs.Code.{code}
 use Rattle.numbers.proofs.Numbers.{number-length, number-one, number-two, number-bytes}
 use Rattle.numbers.proofs.Codes.{code-size}
 use Rattle.packed.specs.Packed.{exponentBytes, termBytes, bytesOfTerms, packed, mostTermBytes, mostBytes}
-use Rattle.packed.specs.Accepted.{Accepted}
+use Rattle.algebra.specs.Accepted.{Accepted}
 use Rattle.packed.proofs.Good.{Fit, weighs-light, Good, Good.none, Good.more, accepted-good}
 
 -- an exponent takes one byte

@@ -17,7 +17,7 @@ use Rattle.numbers.proofs.Items.{then-got, mapped-got, provided-yes, through, p
 use Rattle.numbers.proofs.Numbers.{number-read, number-written}
 use Rattle.numbers.proofs.Codes.{code-decode, decode-code, code-size}
 use Rattle.packed.specs.Packed.{exponentBytes, termBytes, bytesOfTerms, packed}
-use Rattle.packed.specs.Accepted.{Accepted}
+use Rattle.algebra.specs.Accepted.{Accepted}
 use Rattle.packed.specs.Judge.{weighs, follows}
 use Rattle.packed.specs.ReadSum.{readCoefficient, readExponents, readTerm, readTerms, readSum, readWhole}
 use Rattle.packed.proofs.Good.{Fit, Good, Good.none, Good.more, weighs-light, accepted-good, good-accepted}

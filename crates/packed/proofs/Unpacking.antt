@@ -16,7 +16,8 @@ use Rattle.answers.proofs.Writes.{written-front}
 use Rattle.numbers.specs.Item.{Item, Item.got}
 use Rattle.numbers.proofs.Items.{From, Alike, Alike.both-cut, Alike.both-bad, alike-then, then-got, provided-yes, provided-no}
 use Rattle.packed.specs.ReadSum.{readSum, readWhole}
-use Rattle.packed.specs.Held.{wordsOf, coefficientsOf, Holds, readInto}
+use Rattle.algebra.specs.Held.{wordsOf, coefficientsOf}
+use Rattle.packed.specs.Held.{Holds, readInto}
 use Rattle.packed.specs.Whole.{fault, withSum}
 use Rattle.packed.specs.Unpack.{unpack}
 use Rattle.packed.proofs.TakeSum.{sum-few}

@@ -10,7 +10,7 @@ use lib.Seq.{sets}
 use Rattle.algebra.specs.Word.{exponents}
 use Rattle.numbers.specs.Number.{numberBytes}
 use Rattle.numbers.specs.Code.{code}
-use Rattle.packed.specs.Held.{firstTerms}
+use Rattle.algebra.specs.Held.{firstTerms}
 use Rattle.packed.specs.Packed.{exponentBytes, termBytes, bytesOfTerms, packed}
 use Rattle.packed.proofs.Front.{front-length, front-next}
 use Rattle.packed.proofs.Writing.{Writing, start, has-room, joined, next, ended}

@@ -1,5 +1,4 @@
 pub mod Packed
-pub mod Accepted
 pub mod Judge
 pub mod ReadSum
 pub mod Held

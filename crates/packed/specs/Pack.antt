@@ -13,7 +13,7 @@ use Rattle.answers.specs.Answers.{Told.done, Outcome, outcome, check}
 use Rattle.answers.specs.Areas.{written}
 use Rattle.packed.specs.Packed.{packed, mostBytes}
 use Rattle.packed.specs.Judge.{weighs, follows}
-use Rattle.packed.specs.Held.{firstTerms}
+use Rattle.algebra.specs.Held.{firstTerms}
 
 -- no zero coefficient, no total above 2^62, no degree above 60 (a word that is no pattern's is not valid either) and no wrong order
 unfoldable pub isGood : Sum → ℕ → ℤ → Bool

@@ -10,7 +10,7 @@ use Rattle.answers.specs.Refusals.{ROOM}
 use Rattle.answers.specs.Answers.{Told.done, Outcome, outcome, check}
 use Rattle.answers.specs.Areas.{written}
 use Rattle.packed.specs.ReadSum.{readWhole}
-use Rattle.packed.specs.Held.{wordsOf, coefficientsOf}
+use Rattle.algebra.specs.Held.{wordsOf, coefficientsOf}
 use Rattle.packed.specs.Whole.{withSum}
 
 unfoldable pub unpack : List ℕ → List ℕ → List ℤ → Outcome (List ℕ × List ℤ)

@@ -6,7 +6,7 @@ ghost use lib.ListN.{length};
 ghost use lib.Seq.{sets};
 ghost use Rattle.algebra.specs.Word.{exponents};
 ghost use Rattle.packed.specs.Packed.{exponentBytes, packed};
-ghost use Rattle.packed.specs.Held.{firstTerms};
+ghost use Rattle.algebra.specs.Held.{firstTerms};
 
 // The exponents of a pattern, one after the other.
 fn write_exponents(area: &mut [u8], at: usize, pattern: Pattern) -> usize

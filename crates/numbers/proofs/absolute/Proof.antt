@@ -16,11 +16,11 @@ down c = at-neg _ (c .before .fits .n) (c .if1 .left)
 cast-result : tie.Need-cast-result
 cast-result c = let u = up c in rw (u .bits) (tt, record { fits = omega arith })
 
-add-k : tie.Need-add-k
-add-k c = down c .plus-fits
+add-above : tie.Need-add-above
+add-above c = down c .plus-fits
 
-sub-k : tie.Need-sub-k
-sub-k c = down c .minus-fits
+sub-less : tie.Need-sub-less
+sub-less c = down c .minus-fits
 
 cast-result-2 : tie.Need-cast-result-2
 cast-result-2 c = let d = down c in rw (d .flipped) (tt, record { fits = omega arith })
@@ -35,4 +35,4 @@ returns-2 : tie.Need-returns-2
 returns-2 c = let d = down c in rw (d .flipped) (omega (arith, ap natAbs (d .is)))
 
 pub absolute-spec : {M : Type 1} → statement M
-absolute-spec = tie.close (tie.spec cast-result add-k sub-k cast-result-2 add-result returns returns-2)
+absolute-spec = tie.close (tie.spec cast-result add-above sub-less cast-result-2 add-result returns returns-2)

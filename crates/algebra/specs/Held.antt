@@ -1,0 +1,23 @@
+-- A sum as it is held in two areas: the word of each pattern in one, the coefficients in the other.
+use mathlib.Core.List.{List, map}
+use Prim.Native.Nat.{ℕ}
+use lib.IntN.{ℤ}
+use lib.ListN.{take}
+use Rattle.algebra.specs.Limits.{variables}
+use Rattle.algebra.specs.Pattern.{Pattern, filled}
+use Rattle.algebra.specs.Sum.{Term, Sum}
+use Rattle.algebra.specs.Word.{word, terms}
+
+-- the word of a pattern; a variable that it lacks has power 0
+abbrev pub wordFor : Pattern → ℕ
+wordFor p = word (filled variables p)
+
+abbrev pub wordsOf : Sum → List ℕ
+wordsOf s = map (λ (t : Term). wordFor (t .pattern)) s
+
+abbrev pub coefficientsOf : Sum → List ℤ
+coefficientsOf s = map (λ (t : Term). t .coefficient) s
+
+-- the terms in the first places of two areas
+abbrev pub firstTerms : ℕ → List ℕ → List ℤ → Sum
+firstTerms count ws cs = terms (take count ws) (take count cs)
