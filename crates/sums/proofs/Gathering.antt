@@ -1,0 +1,46 @@
+-- A running sum that is a list of terms gathered: it can be held, it stands in two areas after a row was added, and without what has cancelled it is
+-- the list's ordered sum.
+use mathlib.Core.Path.{_≡_, sym, _∙_, ap}
+use mathlib.Core.List.{List}
+use Prim.Native.Nat.{ℕ, _≤_}
+use native.Mathlib.Omega.{arith}
+use lib.IntN.{ℤ}
+use lib.ListN.{length}
+use Rattle.algebra.specs.Limits.{variables, largestDegree, mostTerms}
+use Rattle.algebra.specs.Sum.{Term}
+use Rattle.algebra.specs.Collect.{gather, dropZeros, collect, spread}
+use Rattle.algebra.specs.Held.{firstTerms}
+use Rattle.algebra.proofs.Sums.Every.{Every, gather-every, Long, UpTo, every-degree}
+use Rattle.algebra.proofs.Sums.Ordered.{gather-order}
+use Rattle.algebra.proofs.Sums.Occurs.{spread-gather}
+use Rattle.sums.specs.Formed.{formedOf, Formed.formed, within, formedInto}
+use Rattle.sums.specs.declared.Formed as declared
+use Rattle.sums.specs.declared.Formed.the-variants.{Terms}
+use Rattle.sums.proofs.Holding.{Holdable}
+use Rattle.sums.proofs.Forming.{within-yes}
+use Rattle.sums.proofs.Answering.{given}
+use Rattle.sums.proofs.Fronts.{Front, front-written, front-few, front-is}
+
+module _ (l : List Term) where
+  gathered : Every (Long variables) l → Every (UpTo largestDegree) l → spread l ≤ mostTerms → Holdable (gather l)
+  gathered long low few = record {
+    long = gather-every (Long variables) l long;
+    strict = gather-order l;
+    low = every-degree largestDegree (gather l) (gather-every (UpTo largestDegree) l low);
+    few = omega (arith, spread-gather l);
+  }
+
+  -- an answer that has terms
+  pub gathered-front : Every (Long variables) l → Every (UpTo largestDegree) l → {s : List Term} {ws : List ℕ} {cs : List ℤ} {n : ℕ} → Front s ws cs n
+      → {ws' : List ℕ} {cs' : List ℤ} (r : declared.Formed) → (formedOf r, ws', cs') ≡ formedInto (within (spread l) (gather l)) ws cs
+      → {all count : ℕ} → r ≡ Terms all → count ≡ all → length ws' ≡ length ws → length cs' ≡ length cs → Front (gather l) ws' cs' count
+  gathered-front long low {ws = ws} {cs} before {ws'} {cs'} r answer is part same-words same-coefficients =
+      let g = given (spread l) (gather l) ws cs ws' cs' r is answer in
+      front-written ws cs (g .words-are) (g .coefficients-are) (g .many ∙ sym part) (gathered long low (g .few))
+      (omega (arith, before .words-room)) (omega (arith, before .coefficients-room))
+
+  pub finished : {ws : List ℕ} {cs : List ℤ} {all : ℕ} → Front (gather l) ws cs all → formed (dropZeros (firstTerms all ws cs)) ≡ within (spread l) (collect l)
+  unfolding collect
+  finished f =
+      let few : spread l ≤ mostTerms = omega (arith, spread-gather l, f .many, front-few f) in
+      ap (λ s. formed (dropZeros s)) (front-is f) ∙ sym (within-yes (spread l) (dropZeros (gather l)) few)

@@ -1,0 +1,19 @@
+-- The laws that other crates cite; the proofs of the functions stand beside them, a folder each.
+pub mod Holding
+pub mod Storing
+pub mod MakeRow
+pub mod Finishing
+pub mod Forming
+pub mod Answering
+pub mod Single
+pub mod Fronts
+pub mod Standing
+pub mod Merging
+pub mod Counting
+pub mod Backwards
+pub mod Moving
+pub mod Gathering
+pub mod Adding
+pub mod Multiplying
+pub mod Raising
+pub mod Unique

@@ -1,0 +1,66 @@
+-- Each public function's contract leaves one outcome, as its caller sees it: the answer, and every place of both areas that it lent.
+use mathlib.Core.Path.{_≡_, refl, sym, _∙_, ap}
+use mathlib.Core.List.{List}
+use Prim.Native.Nat.{ℕ}
+use lib.IntN.{ℤ}
+use denote.Ref.{now}
+use Rattle.answers.proofs.Outcomes.{OneLent, same}
+use Rattle.sums.specs.Formed.{Formed, Formed.formed, Formed.over, formedOf}
+use Rattle.sums.specs.declared.Formed as declared
+use Rattle.sums.specs.declared.Formed.the-variants.{Terms, Over}
+use Rattle.sums.proofs.integer.Reads as integer
+use Rattle.sums.proofs.variable.Reads as variable
+use Rattle.sums.proofs.sum.Reads as sum
+use Rattle.sums.proofs.product.Reads as product
+use Rattle.sums.proofs.power.Reads as power
+use Rattle.sums.proofs.rows.make_row.Reads as make-row
+use Rattle.sums.proofs.rows.add_row.Reads as add-row
+use Rattle.sums.proofs.rows.finish.Reads as finish
+
+-- ---- Different answers tell different things.
+
+answerOf : Formed ℕ → declared.Formed
+answerOf (formed n) = Terms n
+answerOf over = Over
+
+answer-of : (r : declared.Formed) → answerOf (formedOf r) ≡ r
+unfolding answerOf
+answer-of (Terms n) = refl
+answer-of Over = refl
+
+pub formed-one : (r r' : declared.Formed) → formedOf r ≡ formedOf r' → r ≡ r'
+formed-one r r' h = sym (answer-of r) ∙ ap answerOf h ∙ answer-of r'
+
+abbrev pub Areas : Type 0
+Areas = List ℕ × List ℤ
+
+-- two equal outcomes have the same answer and the same areas
+pub told-one : (r r' : declared.Formed) {ws ws' : List ℕ} {cs cs' : List ℤ} → _≡_ {A = Formed ℕ × List ℕ × List ℤ} (formedOf r, ws, cs) (formedOf r', ws', cs')
+    → (r ≡ r') × (_≡_ {A = Areas} (ws, cs) (ws', cs'))
+told-one r r' h = (formed-one r r' (ap (λ x. x .0) h), ap (λ x. (x .1, x .2)) h)
+
+-- ---- The functions.
+
+pub integer-one : OneLent integer.Learnt {L = Areas} (λ k e. (now (e .1 .0), now (e .1 .1 .0)))
+integer-one k a r r' e e' h h' = told-one r r' (same h h')
+
+pub variable-one : OneLent variable.Learnt {L = Areas} (λ k e. (now (e .1 .0), now (e .1 .1 .0)))
+variable-one k a r r' e e' h h' = told-one r r' (same h h')
+
+pub sum-one : OneLent sum.Learnt {L = Areas} (λ k e. (now (e .1 .1 .1 .1 .0), now (e .1 .1 .1 .1 .1 .0)))
+sum-one k a r r' e e' h h' = told-one r r' (same h h')
+
+pub product-one : OneLent product.Learnt {L = Areas} (λ k e. (now (e .1 .1 .1 .1 .0), now (e .1 .1 .1 .1 .1 .0)))
+product-one k a r r' e e' h h' = told-one r r' (same h h')
+
+pub power-one : OneLent power.Learnt {L = Areas} (λ k e. (now (e .1 .1 .1 .0), now (e .1 .1 .1 .1 .0)))
+power-one k a r r' e e' h h' = told-one r r' (same h h')
+
+pub make-row-one : OneLent make-row.Learnt {L = Areas} (λ k e. (now (e .1 .1 .1 .1 .0), now (e .1 .1 .1 .1 .1 .0)))
+make-row-one k a r r' e e' h h' = (refl, rw (same (h .0) (h' .0), same (h .1) (h' .1)))
+
+pub add-row-one : OneLent add-row.Learnt {L = Areas} (λ k e. (now (e .0), now (e .1 .0)))
+add-row-one k a r r' e e' h h' = told-one r r' (same h h')
+
+pub finish-one : OneLent finish.Learnt {L = Areas} (λ k e. (now (e .1 .1 .0), now (e .1 .1 .1 .0)))
+finish-one k a r r' e e' h h' = told-one r r' (same h h')
