@@ -1,0 +1,77 @@
+-- A formula is a list of nodes, the last of which is the formula. A node is of one of five kinds, each with its own data; its children are earlier
+-- nodes, named by their index.
+use mathlib.Core.Bool.{Bool, true, false, _&&_}
+use mathlib.Core.List.{List, [], _∷_, _++_}
+use Prim.Native.Nat.{ℕ, zero, suc}
+use lib.Dec.{ltb, leb}
+use lib.IntN.{ℤ, pos, negsuc, natAbs}
+use Rattle.algebra.specs.Limits.{variables, largestDegree}
+use Rattle.algebra.specs.Sum.{isZero}
+use Rattle.answers.specs.Refusals.{NODE}
+use Rattle.nodes.specs.Judge.{Judged, Judged.good, Judged.fails, holding}
+use Rattle.nodes.specs.declared.Kind as declared
+use Rattle.nodes.specs.declared.Kind.the-variants as code
+use Rattle.nodes.specs.declared.Found as answer
+use Rattle.nodes.specs.declared.Found.the-variants.{Good, Fault}
+
+pub data Kind : Type 0 where
+  integer : ℤ → Kind
+  variable : ℕ → Kind
+  sum : ℕ → ℕ → Kind
+  product : ℕ → ℕ → Kind
+  -- the base, and the exponent
+  power : ℕ → ℕ → Kind
+
+-- each case of the code's enum
+abbrev pub kindOf : declared.Kind → Kind
+kindOf (code.Integer n) = integer n
+kindOf (code.Variable v) = variable v
+kindOf (code.Sum a b) = sum a b
+kindOf (code.Product a b) = product a b
+kindOf (code.Power a e) = power a e
+
+-- ---- The table: three numbers for each node, kind, first and second.
+
+abbrev pub numbersOf : Kind → List ℤ
+numbersOf (integer n) = pos 0 ∷ n ∷ pos 0 ∷ []
+numbersOf (variable v) = pos 1 ∷ pos v ∷ pos 0 ∷ []
+numbersOf (sum a b) = pos 2 ∷ pos a ∷ pos b ∷ []
+numbersOf (product a b) = pos 3 ∷ pos a ∷ pos b ∷ []
+numbersOf (power a e) = pos 4 ∷ pos a ∷ pos e ∷ []
+
+unfoldable pub tableOf : List Kind → List ℤ
+tableOf [] = []
+tableOf (k ∷ ks) = numbersOf k ++ tableOf ks
+
+-- node i may be this: its children are earlier nodes, its variable is one of a to h, its exponent at most 60
+abbrev pub isNode : ℕ → Kind → Bool
+isNode i (integer n) = true
+isNode i (variable v) = ltb v variables
+isNode i (sum a b) = ltb a i && ltb b i
+isNode i (product a b) = ltb a i && ltb b i
+isNode i (power a e) = ltb a i && leb e largestDegree
+
+-- ---- Node i is read from its three numbers.
+
+-- the number is at least 0 and below the limit
+unfoldable pub isIn : ℕ → ℤ → Bool
+isIn limit (pos n) = ltb n limit
+isIn limit (negsuc n) = false
+
+-- kinds 0, 1, 2, 3 and 4: a fixed 0 is 0, a variable one of a to h, a child an earlier node, an exponent 0 to 60. There is no other kind
+unfoldable pub readKind : ℕ → ℕ → ℤ → ℤ → Judged Kind
+readKind i zero first second = holding (isZero second) NODE i (good (integer first))
+readKind i (suc zero) first second = holding (isIn variables first && isZero second) NODE i (good (variable (natAbs first)))
+readKind i (suc (suc zero)) first second = holding (isIn i first && isIn i second) NODE i (good (sum (natAbs first) (natAbs second)))
+readKind i (suc (suc (suc zero))) first second = holding (isIn i first && isIn i second) NODE i (good (product (natAbs first) (natAbs second)))
+readKind i (suc (suc (suc (suc zero)))) first second = holding (isIn i first && isIn (suc largestDegree) second) NODE i (good (power (natAbs first) (natAbs second)))
+readKind i (suc (suc (suc (suc (suc kind))))) first second = fails NODE i
+
+unfoldable pub readNode : ℕ → ℤ → ℤ → ℤ → Judged Kind
+readNode i (pos kind) first second = readKind i kind first second
+readNode i (negsuc kind) first second = fails NODE i
+
+-- each case of the code's answer, about node i
+abbrev pub foundOf : ℕ → answer.Found → Judged Kind
+foundOf i (Good k) = good (kindOf k)
+foundOf i Fault = fails NODE i

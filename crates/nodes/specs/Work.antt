@@ -1,0 +1,65 @@
+-- What the code keeps in the work areas: each node's terms in its part. ns has the number of terms of each node.
+use mathlib.Core.Path.{_≡_}
+use mathlib.Core.Bool.{Bool, true, false}
+use mathlib.Core.List.{List, [], _∷_, _++_, map}
+use Prim.Native.Nat.{ℕ, zero, suc, _*_, _≤_, _<_}
+use lib.Dec.{T}
+use lib.IntN.{ℤ}
+use lib.ListN.{length, getD, take, drop}
+use Rattle.algebra.specs.Limits.{largestDegree, mostTerms, largestWeight, mostNodes, workPlaces}
+use Rattle.algebra.specs.Sum.{Sum, degreeOf, weight}
+use Rattle.algebra.specs.Word.{terms}
+use Rattle.algebra.specs.Held.{firstTerms}
+use Rattle.sums.specs.Held.{Held}
+use Rattle.sums.specs.Formed.{Formed, within, formedInto}
+use Rattle.nodes.specs.Part.{part}
+use Rattle.nodes.specs.Node.{Kind, Kind.sum, Kind.product, isNode}
+use Rattle.nodes.specs.Formal.{formalDegree, formalWeight, nodeSpread, nodeSum}
+
+-- the terms in the part of node j
+abbrev pub sumAt : List ℕ → List ℕ → List ℤ → ℕ → Sum
+sumAt ns ws cs j = firstTerms (getD ns j 0) (part j ws) (part j cs)
+
+-- those of the nodes before node i
+unfoldable pub sumsAt : ℕ → List ℕ → List ℕ → List ℤ → List Sum
+sumsAt zero ns ws cs = []
+sumsAt (suc i) ns ws cs = sumsAt i ns ws cs ++ (sumAt ns ws cs i ∷ [])
+
+-- the parts of the nodes before node i each hold a sum
+pub record Keeps (i : ℕ) (ns : List ℕ) (ws : List ℕ) (cs : List ℤ) : Type 0 where
+  pub few : (j : ℕ) → j < i → getD ns j 0 ≤ mostTerms
+  pub holds : (j : ℕ) → j < i → Held (take (getD ns j 0) (part j ws)) (take (getD ns j 0) (part j cs))
+
+-- the sum of a node, by the sums of the nodes before
+abbrev pub nodeFormed : List Sum → Kind → Formed Sum
+nodeFormed ss k = within (nodeSpread ss k) (nodeSum ss k)
+
+-- what forming node i, of kind k, asks. Degree and weight are judged by the formulas of the formal ones, at the degrees and weights of the sums themselves
+pub record Ready (i : ℕ) (ns : List ℕ) (ws : List ℕ) (cs : List ℤ) (k : Kind) : Type 0 where
+  pub is-node : T (isNode i k)
+  pub inside : i < mostNodes
+  pub counted : i ≤ length ns
+  pub words-room : workPlaces ≤ length ws
+  pub coefficients-room : workPlaces ≤ length cs
+  pub keeps : Keeps i ns ws cs
+  pub low : formalDegree (map degreeOf (sumsAt i ns ws cs)) k ≤ largestDegree
+  pub light : formalWeight (map weight (sumsAt i ns ws cs)) k ≤ largestWeight
+
+-- a sum was formed into the part of node i: the code's answer, and the two areas before and after
+pub record FormedAt (i : ℕ) (f : Formed Sum) (answer : Formed ℕ) (ws : List ℕ) (cs : List ℤ) (ws' : List ℕ) (cs' : List ℤ) : Type 0 where
+  pub in-part : (answer, part i ws', part i cs') ≡ formedInto f (part i ws) (part i cs)
+  pub words-before : take (mostTerms * i) ws' ≡ take (mostTerms * i) ws
+  pub words-after : drop (mostTerms * suc i) ws' ≡ drop (mostTerms * suc i) ws
+  pub coefficients-before : take (mostTerms * i) cs' ≡ take (mostTerms * i) cs
+  pub coefficients-after : drop (mostTerms * suc i) cs' ≡ drop (mostTerms * suc i) cs
+
+-- ---- For the function that forms a sum or a product.
+
+-- a product, or a sum
+abbrev pub twoOf : Bool → ℕ → ℕ → Kind
+twoOf true a b = product a b
+twoOf false a b = sum a b
+
+-- two sums, held in slices, as the nodes 0 and 1
+abbrev pub pairOf : List ℕ → List ℤ → List ℕ → List ℤ → List Sum
+pairOf sp sc tp tc = terms sp sc ∷ terms tp tc ∷ []

@@ -1,0 +1,174 @@
+// The sum of a node, formed of the sums of earlier nodes, in the work areas.
+use crate::Kind;
+use algebra::MOST_TERMS;
+use answers::areas;
+use sums::Formed;
+ghost use mathlib.Core.Path.{_≡_};
+ghost use mathlib.Core.List.{map};
+ghost use Prim.Native.Nat.{_+_, _*_, _≤_, _<_};
+ghost use lib.ListN.{length, take};
+ghost use Rattle.algebra.specs.Limits.{largestDegree, mostTerms, largestWeight, mostNodes, workPlaces};
+ghost use Rattle.algebra.specs.Sum.{degreeOf, weight};
+ghost use Rattle.answers.specs.Areas.{written};
+ghost use Rattle.sums.specs.Held.{Held};
+ghost use Rattle.sums.specs.Formed.{formedOf};
+ghost use Rattle.nodes.specs.Node.{kindOf, Kind.power};
+ghost use Rattle.nodes.specs.Formal.{formalDegree, formalWeight};
+ghost use Rattle.nodes.specs.Part.{part};
+ghost use Rattle.nodes.specs.Work.{sumsAt, nodeFormed, Ready, FormedAt, twoOf, pairOf};
+
+// The n terms of an earlier node, copied to arrays: two parts of one area cannot be lent at once.
+fn copy_operand(
+    node: usize,
+    n: usize,
+    patterns: &[u64],
+    coefficients: &[i64],
+    sp: &mut [u64],
+    sc: &mut [i64],
+)
+    requires { ⌜ mostTerms * node + mostTerms ≤ length (now patterns) ⌝ }
+    requires { ⌜ mostTerms * node + mostTerms ≤ length (now coefficients) ⌝ }
+    requires { ⌜ n ≤ mostTerms ⌝ }
+    requires { ⌜ mostTerms ≤ length (now sp) ⌝ }
+    requires { ⌜ mostTerms ≤ length (now sc) ⌝ }
+    ensures { λ r. ⌜ now (sp .exit) ≡ written (take n (part node (now (patterns .entry)))) (now (sp .entry)) ⌝ }
+    ensures { λ r. ⌜ now (sc .exit) ≡ written (take n (part node (now (coefficients .entry)))) (now (sc .entry)) ⌝ }
+{
+    let start = MOST_TERMS * node;
+    let end = start + MOST_TERMS;
+    areas::copy_words(sp, &patterns[start..end], n);
+    areas::copy_coefficients(sc, &coefficients[start..end], n);
+}
+
+// The sum of two sums, or their product, into the part of node i. (As in `Ready`, the formulas of formal degree and weight say what
+// sum and product need of the sums' own degrees and weights.)
+fn form_pair(
+    multiply: bool,
+    sp: &[u64],
+    sc: &[i64],
+    tp: &[u64],
+    tc: &[i64],
+    i: usize,
+    patterns: &mut [u64],
+    coefficients: &mut [i64],
+) -> Formed
+    requires { ⌜ Held (now sp) (now sc) ⌝ }
+    requires { ⌜ Held (now tp) (now tc) ⌝ }
+    requires { ⌜ formalDegree (map degreeOf (pairOf (now sp) (now sc) (now tp) (now tc))) (twoOf multiply 0 1) ≤ largestDegree ⌝ }
+    requires { ⌜ formalWeight (map weight (pairOf (now sp) (now sc) (now tp) (now tc))) (twoOf multiply 0 1) ≤ largestWeight ⌝ }
+    requires { ⌜ i < mostNodes ⌝ }
+    requires { ⌜ workPlaces ≤ length (now patterns) ⌝ }
+    requires { ⌜ workPlaces ≤ length (now coefficients) ⌝ }
+    ensures { λ r. ⌜ FormedAt i (nodeFormed (pairOf (now (sp .entry)) (now (sc .entry)) (now (tp .entry)) (now (tc .entry))) (twoOf multiply 0 1)) (formedOf r) (now (patterns .entry)) (now (coefficients .entry)) (now (patterns .exit)) (now (coefficients .exit)) ⌝ }
+{
+    let start = MOST_TERMS * i;
+    let end = start + MOST_TERMS;
+    if multiply {
+        return sums::product(
+            sp,
+            sc,
+            tp,
+            tc,
+            &mut patterns[start..end],
+            &mut coefficients[start..end],
+        );
+    }
+    sums::sum(
+        sp,
+        sc,
+        tp,
+        tc,
+        &mut patterns[start..end],
+        &mut coefficients[start..end],
+    )
+}
+
+// The sum or the product of two earlier nodes, into the part of node i.
+fn form_two(
+    multiply: bool,
+    a: usize,
+    b: usize,
+    i: usize,
+    counts: &[usize],
+    patterns: &mut [u64],
+    coefficients: &mut [i64],
+) -> Formed
+    requires { ⌜ Ready i (now counts) (now patterns) (now coefficients) (twoOf multiply a b) ⌝ }
+    ensures { λ r. ⌜ FormedAt i (nodeFormed (sumsAt i (now (counts .entry)) (now (patterns .entry)) (now (coefficients .entry))) (twoOf multiply a b)) (formedOf r) (now (patterns .entry)) (now (coefficients .entry)) (now (patterns .exit)) (now (coefficients .exit)) ⌝ }
+{
+    let mut sp = [0u64; MOST_TERMS];
+    let mut sc = [0i64; MOST_TERMS];
+    let mut tp = [0u64; MOST_TERMS];
+    let mut tc = [0i64; MOST_TERMS];
+    let n = counts[a];
+    let m = counts[b];
+    copy_operand(a, n, patterns, coefficients, &mut sp, &mut sc);
+    copy_operand(b, m, patterns, coefficients, &mut tp, &mut tc);
+    form_pair(
+        multiply,
+        &sp[0..n],
+        &sc[0..n],
+        &tp[0..m],
+        &tc[0..m],
+        i,
+        patterns,
+        coefficients,
+    )
+}
+
+// A power, into the part of node i.
+fn form_power(
+    a: usize,
+    e: u64,
+    i: usize,
+    counts: &[usize],
+    patterns: &mut [u64],
+    coefficients: &mut [i64],
+) -> Formed
+    requires { ⌜ Ready i (now counts) (now patterns) (now coefficients) (power a e) ⌝ }
+    ensures { λ r. ⌜ FormedAt i (nodeFormed (sumsAt i (now (counts .entry)) (now (patterns .entry)) (now (coefficients .entry))) (power a e)) (formedOf r) (now (patterns .entry)) (now (coefficients .entry)) (now (patterns .exit)) (now (coefficients .exit)) ⌝ }
+{
+    let mut sp = [0u64; MOST_TERMS];
+    let mut sc = [0i64; MOST_TERMS];
+    let n = counts[a];
+    copy_operand(a, n, patterns, coefficients, &mut sp, &mut sc);
+    let start = MOST_TERMS * i;
+    let end = start + MOST_TERMS;
+    sums::power(
+        &sp[0..n],
+        &sc[0..n],
+        e,
+        &mut patterns[start..end],
+        &mut coefficients[start..end],
+    )
+}
+
+// The terms of node i: the part of both work areas that starts at 128 × i is lent on for them.
+pub fn form(
+    kind: Kind,
+    i: usize,
+    counts: &[usize],
+    patterns: &mut [u64],
+    coefficients: &mut [i64],
+) -> Formed
+    requires { ⌜ Ready i (now counts) (now patterns) (now coefficients) (kindOf kind) ⌝ }
+    ensures { λ r. ⌜ FormedAt i (nodeFormed (sumsAt i (now (counts .entry)) (now (patterns .entry)) (now (coefficients .entry))) (kindOf kind)) (formedOf r) (now (patterns .entry)) (now (coefficients .entry)) (now (patterns .exit)) (now (coefficients .exit)) ⌝ }
+{
+    let start = MOST_TERMS * i;
+    let end = start + MOST_TERMS;
+    match kind {
+        Kind::Integer(n) => sums::integer(
+            n,
+            &mut patterns[start..end],
+            &mut coefficients[start..end],
+        ),
+        Kind::Variable(v) => sums::variable(
+            v,
+            &mut patterns[start..end],
+            &mut coefficients[start..end],
+        ),
+        Kind::Sum(a, b) => form_two(false, a, b, i, counts, patterns, coefficients),
+        Kind::Product(a, b) => form_two(true, a, b, i, counts, patterns, coefficients),
+        Kind::Power(a, e) => form_power(a, e, i, counts, patterns, coefficients),
+    }
+}
