@@ -1,0 +1,199 @@
+-- Simplify, as its caller sees it: exactly when it is done, with which sum, and exactly when it is refused, and how.
+use mathlib.Core.Path.{_≡_, refl, sym, _∙_, ap, subst}
+use mathlib.Core.Bool.{Bool, true, false, _&&_, true≢false}
+use mathlib.Core.List.{List, []}
+use Prim.Native.Nat.{ℕ, _*_, _%_, _/_, _≤_, _<_}
+use native.Mathlib.Omega.{arith}
+use lib.Dec.{T, leb, eqb, leb→le, eqb→eq}
+use lib.IntN.{ℤ, pos}
+use lib.ListN.{length}
+use borrow.Author.Tests.{le-leb}
+use Rattle.algebra.specs.Limits.{variables, mostNodes, workPlaces}
+use Rattle.algebra.specs.Sum.{Sum}
+use Rattle.algebra.specs.Accepted.{Accepted}
+use Rattle.algebra.proofs.Numbers.Test.{and-l, and-r, true-is, false-is}
+use Rattle.answers.specs.Refusals.{ROOM, SHAPE}
+use Rattle.answers.specs.Answers.{Told, Told.done, Told.refused, Outcome, outcome}
+use Rattle.answers.specs.Areas.{written, cleared}
+use Rattle.packed.specs.Packed.{packed, mostBytes}
+use Rattle.nodes.specs.Node.{Kind, tableOf}
+use Rattle.formula.specs.Table.{Entry, judgeNodes, judgeTable, isShape}
+use Rattle.formula.specs.Simplify.{Areas, lastSum, packedInto, simplify}
+use Rattle.formula.specs.Checks.{Passed, FirstFault}
+use Rattle.formula.specs.Meaning.{Means}
+use Rattle.formula.proofs.Passing.{table-length, AllPass, all-judge, fault-judge, shape-judge, no-shape-judge, Verdict, Verdict.all, Verdict.first, verdict}
+use Rattle.formula.proofs.Meaning.{last-accepted, passed-means}
+
+-- ---- ROOM and SHAPE.
+
+each-holds : (a b c : Bool) → a && (b && c) ≡ true → T a × T b × T c
+each-holds a b c e =
+    let t : T (a && (b && c)) = rw e tt in
+    let rest = and-r a (b && c) t in
+    (and-l a (b && c) t, and-l b c rest, and-r b c rest)
+
+-- the lent areas are long enough
+pub record Room (ws : List ℕ) (cs : List ℤ) (area : List ℕ) : Type 0 where
+  pub words : workPlaces ≤ length ws
+  pub coefficients : workPlaces ≤ length cs
+  pub result : mostBytes variables ≤ length area
+
+module _ (ws : List ℕ) (cs : List ℤ) (area : List ℕ) where
+  abbrev hasRoom : Bool
+  hasRoom = leb workPlaces (length ws) && (leb workPlaces (length cs) && leb (mostBytes variables) (length area))
+
+  room-tested : Room ws cs area → hasRoom ≡ true
+  room-tested r =
+      rw (le-leb workPlaces (length ws) (r .words), le-leb workPlaces (length cs) (r .coefficients), le-leb (mostBytes variables) (length area) (r .result))
+
+  tested-room : hasRoom ≡ true → Room ws cs area
+  tested-room e =
+      let h = each-holds (leb workPlaces (length ws)) (leb workPlaces (length cs)) (leb (mostBytes variables) (length area)) e in
+      record {
+        words = leb→le workPlaces (length ws) (h .0);
+        coefficients = leb→le workPlaces (length cs) (h .1);
+        result = leb→le (mostBytes variables) (length area) (h .2);
+      }
+
+-- a table of so many nodes, three numbers each
+pub record Shaped (n nodes : ℕ) : Type 0 where
+  pub three-each : n ≡ 3 * nodes
+  pub some : 1 ≤ nodes
+  pub few : nodes ≤ mostNodes
+
+pub shape-says : (n : ℕ) → isShape n ≡ true → Shaped n (n / 3)
+unfolding isShape
+shape-says n e =
+    let h = each-holds (eqb (n % 3) 0) (leb 1 (n / 3)) (leb (n / 3) mostNodes) e in
+    record {
+      three-each = omega (arith, eqb→eq (n % 3) 0 (h .0));
+      some = leb→le 1 (n / 3) (h .1);
+      few = leb→le (n / 3) mostNodes (h .2);
+    }
+
+nodes-shape : (m : ℕ) → 0 < m → m ≤ mostNodes → isShape (3 * m) ≡ true
+unfolding isShape
+nodes-shape m some few =
+    let none-left : 3 * m % 3 ≡ 0 = omega arith in
+    let as-many : 3 * m / 3 ≡ m = omega arith in
+    rw (none-left, as-many, le-leb 1 m some, le-leb m mostNodes few)
+
+-- ---- The outcomes.
+
+-- the areas after any answer but ROOM: both work areas cleared, and the result area
+abbrev pub clearedWith : List ℕ → List ℤ → List ℕ → Areas
+clearedWith ws cs result = (cleared 0 workPlaces ws, cleared (pos 0) workPlaces cs, result)
+
+module _ (table : List ℤ) (ws : List ℕ) (cs : List ℤ) (area : List ℕ) where
+  -- it is done: every check passes, and the sum is what ordinary algebra gives the table's formula
+  pub record Simplified (n : ℕ) (areas : Areas) : Type 0 where
+    pub ks : List Kind
+    pub entries : List Entry
+    pub sum : Sum
+    pub room : Room ws cs area
+    pub table-is : table ≡ tableOf ks
+    pub some : 0 < length ks
+    pub few : length ks ≤ mostNodes
+    pub passed : Passed ks entries
+    pub sum-is : sum ≡ lastSum entries
+    pub means : Means ks sum
+    pub accepted : Accepted variables sum
+    pub many : n ≡ length (packed sum)
+    pub areas-are : areas ≡ clearedWith ws cs (written (packed sum) area)
+
+  -- it is refused: the refusal, its place, and the areas
+  pub data Refuses : ℕ → ℕ → Areas → Type 0 where
+    no-room : (Room ws cs area → ⊥) → Refuses ROOM 0 (ws, cs, area)
+    no-shape : Room ws cs area → isShape (length table) ≡ false → Refuses SHAPE 0 (clearedWith ws cs area)
+    at-node : {refusal p : ℕ} → Room ws cs area → isShape (length table) ≡ true → FirstFault table refusal p → Refuses refusal p (clearedWith ws cs area)
+
+  -- ---- Check by check.
+
+  pub after-room : Room ws cs area → simplify table ws cs area ≡ packedInto (judgeTable table) (cleared 0 workPlaces ws) (cleared (pos 0) workPlaces cs) area
+  unfolding simplify
+  after-room r = rw (room-tested ws cs area r)
+
+  after-shape : Room ws cs area → isShape (length table) ≡ true
+      → simplify table ws cs area ≡ packedInto (judgeNodes [] table) (cleared 0 workPlaces ws) (cleared (pos 0) workPlaces cs) area
+  after-shape r s = after-room r ∙ ap (λ j. packedInto j (cleared 0 workPlaces ws) (cleared (pos 0) workPlaces cs) area) (shape-judge table s)
+
+  after-nodes : Room ws cs area → isShape (length table) ≡ true → {es : List Entry} → AllPass table es
+      → let bytes = packed (lastSum es) in simplify table ws cs area ≡ outcome (done (length bytes)) (clearedWith ws cs (written bytes area))
+  unfolding packedInto
+  after-nodes r s a = after-shape r s ∙ rw (all-judge a)
+
+  pub without-room : (Room ws cs area → ⊥) → simplify table ws cs area ≡ outcome (refused ROOM 0) (ws, cs, area)
+  unfolding simplify
+  without-room f = rw (false-is (hasRoom ws cs area) (λ t. f (tested-room ws cs area (true-is (hasRoom ws cs area) t))))
+
+  without-shape : Room ws cs area → isShape (length table) ≡ false → simplify table ws cs area ≡ outcome (refused SHAPE 0) (clearedWith ws cs area)
+  unfolding packedInto
+  without-shape r s = after-room r ∙ rw (no-shape-judge table s)
+
+  at-fault : {refusal p : ℕ} → Room ws cs area → isShape (length table) ≡ true → FirstFault table refusal p
+      → simplify table ws cs area ≡ outcome (refused refusal p) (clearedWith ws cs area)
+  unfolding packedInto
+  at-fault r s f = after-shape r s ∙ rw (fault-judge f)
+
+  pub refuses-simplify : {refusal p : ℕ} {areas : Areas} → Refuses refusal p areas → simplify table ws cs area ≡ outcome (refused refusal p) areas
+  refuses-simplify (no-room f) = without-room f
+  refuses-simplify (no-shape r s) = without-shape r s
+  refuses-simplify (at-node r s f) = at-fault r s f
+
+-- nodes that all pass are accepted
+pub simplify-accepts : {ks : List Kind} {es : List Entry} (ws : List ℕ) (cs : List ℤ) (area : List ℕ)
+    → Room ws cs area → Passed ks es → 0 < length ks → length ks ≤ mostNodes
+    → let bytes = packed (lastSum es) in simplify (tableOf ks) ws cs area ≡ outcome (done (length bytes)) (clearedWith ws cs (written bytes area))
+simplify-accepts {ks} ws cs area r p some few =
+    after-nodes (tableOf ks) ws cs area r (ap isShape (table-length ks) ∙ nodes-shape (length ks) some few) (record { ks = ks; table-is = refl; passed = p })
+
+-- ---- There are no other outcomes.
+
+module _ (table : List ℤ) (ws : List ℕ) (cs : List ℤ) (area : List ℕ) where
+  -- what stands behind an answer, and behind an outcome
+  abbrev Behind : Told → Areas → Type 0
+  Behind (done n) areas = Simplified table ws cs area n areas
+  Behind (refused refusal p) areas = Refuses table ws cs area refusal p areas
+
+  abbrev Explains : Outcome Areas → Type 0
+  Explains o = Behind (o .answer) (o .areas)
+
+  refused-so : {refusal p : ℕ} {areas : Areas} → Refuses table ws cs area refusal p areas → Explains (simplify table ws cs area)
+  refused-so d = subst Explains (sym (refuses-simplify table ws cs area d)) d
+
+  judged : Room ws cs area → isShape (length table) ≡ true → Verdict table → Explains (simplify table ws cs area)
+  judged r s (all es a) =
+      let shape = shape-says (length table) s in
+      let three-each = ap length (a .table-is) ∙ table-length (a .ks) in
+      subst Explains (sym (after-nodes table ws cs area r s a))
+      (record {
+        ks = a .ks;
+        entries = es;
+        sum = lastSum es;
+        room = r;
+        table-is = a .table-is;
+        some = omega (arith, shape .some, three-each);
+        few = omega (arith, shape .few, three-each);
+        passed = a .passed;
+        sum-is = refl;
+        means = passed-means (a .passed);
+        accepted = last-accepted (a .passed);
+        many = refl;
+        areas-are = refl;
+      })
+  judged r s (first refusal p f) = refused-so (at-node r s f)
+
+  explained : Explains (simplify table ws cs area)
+  explained = go (hasRoom ws cs area) refl (isShape (length table)) refl
+    where
+      go : (b : Bool) → hasRoom ws cs area ≡ b → (c : Bool) → isShape (length table) ≡ c → Explains (simplify table ws cs area)
+      go true r true s = judged (tested-room ws cs area r) s (verdict table (omega (arith, shape-says (length table) s .three-each)))
+      go true r false s = refused-so (no-shape (tested-room ws cs area r) s)
+      go false r c s = refused-so (no-room (λ h. true≢false (sym (room-tested ws cs area h) ∙ r)))
+
+  pub simplify-means : {n : ℕ} {areas : Areas} → simplify table ws cs area ≡ outcome (done n) areas → Simplified table ws cs area n areas
+  simplify-means e = subst Explains e explained
+
+  pub simplify-refuses : {refusal p : ℕ} {areas : Areas} → simplify table ws cs area ≡ outcome (refused refusal p) areas
+      → Refuses table ws cs area refusal p areas
+  simplify-refuses e = subst Explains e explained

@@ -1,0 +1,5 @@
+pub mod Table
+pub mod Simplify
+pub mod Meaning
+pub mod Checks
+pub mod Last
