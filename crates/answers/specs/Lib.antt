@@ -1,3 +1,4 @@
 pub mod Refusals
 pub mod Answers
 pub mod Areas
+pub mod Quoted

@@ -55,7 +55,7 @@ unfolding judgeNodes
 three-judged before numbers rest h = ap (λ l. judgeNodes before (l ++ rest)) (three-are numbers h)
 
 module _ (before : List Entry) (k : Kind) where
-  node-judged : (rest : List ℤ) → T (isNode (length before) k)
+  pub node-judged : (rest : List ℤ) → T (isNode (length before) k)
       → judgeNodes before (numbersOf k ++ rest) ≡ andThen (judgeNode before k) (λ e. judgeNodes (before ++ (e ∷ [])) rest)
   unfolding andThen
   node-judged rest t = three-judged before (numbersOf k) rest (numbers-three k) ∙ rw (numbers-read (length before) k t)

@@ -71,7 +71,7 @@ shape-says n e =
       few = leb→le (n / 3) mostNodes (h .2);
     }
 
-nodes-shape : (m : ℕ) → 0 < m → m ≤ mostNodes → isShape (3 * m) ≡ true
+pub nodes-shape : (m : ℕ) → 0 < m → m ≤ mostNodes → isShape (3 * m) ≡ true
 unfolding isShape
 nodes-shape m some few =
     let none-left : 3 * m % 3 ≡ 0 = omega arith in

@@ -1,4 +1,4 @@
--- Checks, one after the other: the first that fails gives its refusal and its place: a node's index, or 0 for SHAPE.
+-- Checks, one after the other: the first that fails gives its refusal and its place.
 use mathlib.Core.Bool.{Bool, true, false}
 use Prim.Native.Nat.{ℕ}
 
