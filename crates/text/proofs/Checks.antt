@@ -1,0 +1,17 @@
+-- One check after another.
+use mathlib.Core.Path.{_≡_}
+use Prim.Native.Nat.{ℕ}
+use native.Mathlib.Omega.{arith}
+use Rattle.nodes.specs.Judge.{Judged, Judged.good, Judged.fails, andThen}
+
+module _ {A B : Type 0} {j : Judged A} (f : A → Judged B) where
+  pub then-good : {a : A} → j ≡ good a → andThen j f ≡ f a
+  unfolding andThen
+  then-good e = rw e
+
+  pub then-fails : {refusal place : ℕ} → j ≡ fails refusal place → andThen j f ≡ fails refusal place
+  unfolding andThen
+  then-fails e = rw e
+
+pub good-fails : {A : Type 0} {a : A} {refusal p : ℕ} → good a ≡ fails refusal p → ⊥
+good-fails e = let z : _≡_ {A = ℕ} 0 1 = cc in omega arith

@@ -1,0 +1,8 @@
+-- The public function's contract leaves one outcome, as its caller sees it: the answer, and every place of the table area.
+use denote.Ref.{now}
+use Rattle.answers.proofs.Outcomes.{OneLent, same}
+use Rattle.answers.proofs.Unique.{outcome-one}
+use Rattle.text.proofs.read_formula.Reads as read-formula
+
+pub read-formula-one : OneLent read-formula.Learnt (λ k e. now (e .1 .0))
+read-formula-one k a r r' e e' h h' = outcome-one r r' (same h h')

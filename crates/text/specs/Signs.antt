@@ -1,0 +1,39 @@
+-- The bytes of a typed formula that are no letters.
+use mathlib.Core.Bool.{Bool, _&&_}
+use Prim.Native.Nat.{ℕ}
+use lib.Dec.{leb}
+
+-- +
+abbrev pub plusSign : ℕ
+plusSign = 43
+
+-- -
+abbrev pub minusSign : ℕ
+minusSign = 45
+
+-- *
+abbrev pub timesSign : ℕ
+timesSign = 42
+
+-- ^
+abbrev pub powerSign : ℕ
+powerSign = 94
+
+-- (
+abbrev pub openBracket : ℕ
+openBracket = 40
+
+-- )
+abbrev pub closeBracket : ℕ
+closeBracket = 41
+
+-- 0; the digits stand one after the other
+abbrev pub zeroDigit : ℕ
+zeroDigit = 48
+
+-- 9
+abbrev pub nineDigit : ℕ
+nineDigit = 57
+
+unfoldable pub isDigit : ℕ → Bool
+isDigit b = leb zeroDigit b && leb b nineDigit

@@ -1,0 +1,29 @@
+-- The operation on typed formulas: ROOM, TEXT, NODES. Done, it returns the number of nodes: three numbers for each are written into the table area, and
+-- its other places stay. On refusal the area stays.
+use mathlib.Core.List.{List}
+use Prim.Native.Nat.{ℕ}
+use lib.Dec.{leb}
+use lib.IntN.{ℤ}
+use lib.ListN.{length}
+use Rattle.algebra.specs.Limits.{mostNodes}
+use Rattle.answers.specs.Refusals.{ROOM, TEXT, NODES}
+use Rattle.answers.specs.Answers.{Told.done, Told.refused, Outcome, outcome, check}
+use Rattle.answers.specs.Areas.{written}
+use Rattle.nodes.specs.Judge.{Judged, Judged.good, Judged.fails, holding, andThen}
+use Rattle.nodes.specs.Node.{tableOf}
+use Rattle.text.specs.Limits.{longestText, tablePlaces}
+use Rattle.text.specs.Tree.{Tree, size, nodesOf}
+use Rattle.text.specs.Reader.{readWhole}
+
+-- the length first, then the reading, then the number of nodes
+unfoldable pub judgeText : List ℕ → Judged Tree
+judgeText text =
+    holding (leb (length text) longestText) TEXT longestText
+    (andThen (readWhole text) (λ t. holding (leb (size t) mostNodes) NODES 0 (good t)))
+
+unfoldable pub tableInto : Judged Tree → List ℤ → Outcome (List ℤ)
+tableInto (good t) table = outcome (done (size t)) (written (tableOf (nodesOf 0 t)) table)
+tableInto (fails refusal place) table = outcome (refused refusal place) table
+
+unfoldable pub readFormula : List ℕ → List ℤ → Outcome (List ℤ)
+readFormula text table = check (leb tablePlaces (length table)) ROOM 0 table (tableInto (judgeText text) table)
