@@ -1,0 +1,202 @@
+-- What the operations answer, as the sum that is listed or the refusal.
+use mathlib.Core.Path.{_≡_, refl, sym, _∙_, ap, ap₂}
+use mathlib.Core.Bool.{Bool, true, false}
+use mathlib.Core.List.{List}
+use Prim.Native.Nat.{ℕ, _*_, _%_, _≤_}
+use native.Mathlib.Omega.{arith}
+use lib.Dec.{leb}
+use lib.IntN.{ℤ, pos}
+use lib.ListN.{length, take, drop, length-map, length-append}
+use borrow.Author.Tests.{le-leb}
+use Rattle.algebra.specs.Limits.{variables, largestDegree, mostTerms, workPlaces}
+use Rattle.algebra.specs.Sum.{Sum}
+use Rattle.algebra.specs.Word.{terms}
+use Rattle.algebra.specs.Held.{wordsOf, coefficientsOf, firstTerms}
+use Rattle.algebra.proofs.Sums.Every.{degree-every}
+use Rattle.algebra.proofs.Sums.Held.{terms-again}
+use Rattle.algebra.proofs.Sums.Ordered.{parts}
+use Rattle.answers.specs.Refusals.{ROOM, number}
+use Rattle.answers.specs.Answers.{Told, Told.done, Told.refused, told, Outcome, outcome, check}
+use Rattle.answers.specs.Areas.{written, cleared}
+use Rattle.answers.specs.declared.Answer.{Answer}
+use Rattle.answers.specs.declared.Answer.the-variants.{Done, Refused}
+use Rattle.answers.specs.declared.Refusal.{Refusal}
+use Rattle.answers.proofs.Writes.{written-front}
+use Rattle.packed.specs.Unpack.{unpack}
+use Rattle.packed.specs.Packed.{packed}
+use Rattle.packed.proofs.Inverse.{unpack-accepts}
+use Rattle.nodes.specs.Judge.{Judged, Judged.good, Judged.fails, andThen}
+use Rattle.nodes.specs.Node.{tableOf}
+use Rattle.formula.specs.Table.{Entry, judgeTable, isShape}
+use Rattle.formula.specs.Simplify.{Areas, lastSum, packedInto, simplify}
+use Rattle.formula.proofs.Meaning.{last-accepted}
+use Rattle.formula.proofs.Passing.{table-length, AllPass, judge-says, shape-judge, no-shape-judge}
+use Rattle.formula.proofs.Simplifying.{Room, after-room, shape-says}
+use Rattle.text.specs.Limits.{tablePlaces}
+use Rattle.text.specs.Tree.{Tree, nodesOf}
+use Rattle.text.specs.Text.{judgeText, tableInto, readFormula}
+use Rattle.text.proofs.Checks.{good-fails}
+use Rattle.text.proofs.Trees.{nodes-length}
+use Rattle.listing.specs.Bytes.{Packs}
+use Rattle.listing.specs.Lines.{mostLines, sumLines, refusalLine}
+use Rattle.listing.specs.Listing.{tableSum, textSum, listed, withoutNewline, list}
+
+-- ---- Answers.
+
+-- an outcome that tells something else
+no-outcome : {A : Type 0} {n refusal place : ℕ} {x y : A} → outcome (done n) x ≡ outcome (refused refusal place) y → ⊥
+no-outcome e = let told-alike = ap (λ (o : Outcome _). o .answer) e in let z : _≡_ {A = ℕ} 0 1 = cc in absurd (omega arith)
+
+module _ {A : Type 0} {x y : A} {n m : ℕ} (e : outcome (done n) x ≡ outcome (done m) y) where
+  done-same : n ≡ m
+  done-same = let told-alike = ap (λ (o : Outcome A). o .answer) e in cc
+
+  areas-same : x ≡ y
+  areas-same = ap (λ (o : Outcome A). o .areas) e
+
+refused-same : {A B : Type 0} {x y : A} {r s p q : ℕ} → outcome (refused r p) x ≡ outcome (refused s q) y → _≡_ {A = Judged B} (fails r p) (fails s q)
+refused-same {A} {B} e = let told-alike = ap (λ (o : Outcome A). o .answer) e in cc
+
+-- ---- Packed bytes are always unpacked.
+
+-- the terms of the sum in two areas
+pub record Terms (sum : Sum) (count : ℕ) (ws : List ℕ) (cs : List ℤ) : Type 0 where
+  pub words : count ≤ length ws
+  pub coefficients : count ≤ length cs
+  pub terms-are : firstTerms count ws cs ≡ sum
+
+module _ (bytes ws : List ℕ) (cs : List ℤ) (words-room : mostTerms ≤ length ws) (coefficients-room : mostTerms ≤ length cs) (a : Answer)
+    {ws' : List ℕ} {cs' : List ℤ} (e : outcome (told a) (ws', cs') ≡ unpack bytes ws cs) {s : Sum} (p : Packs bytes s) where
+  gives : {t : Told} → told a ≡ t → outcome {Areas = List ℕ × List ℤ} t (ws', cs') ≡ outcome (done (length s)) (written (wordsOf s) ws, written (coefficientsOf s) cs)
+  gives f =
+      ap (λ (t : Told). outcome {Areas = List ℕ × List ℤ} t (ws', cs')) (sym f) ∙ e ∙ ap (λ (l : List ℕ). unpack l ws cs) (p .bytes-are)
+      ∙ unpack-accepts s ws cs (p .accepted) words-room coefficients-room
+
+  pub unpacked : {count : ℕ} → a ≡ Done count → Terms s count ws' cs'
+  unfolding terms
+  unpacked d =
+      let f = gives (ap told d) in
+      let many = sym (done-same f) in
+      let words = written-front (wordsOf s) ws (ap (λ (x : List ℕ × List ℤ). x .0) (areas-same f)) (length-map s _ ∙ many) in
+      let coefficients = written-front (coefficientsOf s) cs (ap (λ (x : List ℕ × List ℤ). x .1) (areas-same f)) (length-map s _ ∙ many) in
+      record {
+        words = words .1;
+        coefficients = coefficients .1;
+        terms-are = ap₂ terms (words .0) (coefficients .0)
+            ∙ terms-again s (parts variables s (p .accepted .isOrdered) .long) (degree-every largestDegree s (p .accepted .low));
+      }
+
+  pub never-refused : {refusal : Refusal} {place : ℕ} → a ≡ Refused refusal place → ⊥
+  never-refused d = no-outcome (sym (gives (ap told d)))
+
+-- ---- Tables.
+
+-- a formula that was simplified: its bytes stand in the first places of the area
+pub record Simple (table : List ℤ) (n : ℕ) (area : List ℕ) : Type 0 where
+  pub sum : Sum
+  pub is : tableSum table ≡ good sum
+  pub short : n ≤ length area
+  pub packs : (m : ℕ) → m ≡ n → Packs (take m area) sum
+
+pub judged-passes : (table : List ℤ) (nodes : List Entry) → judgeTable table ≡ good nodes → AllPass table nodes
+judged-passes table nodes e = go (isShape (length table)) refl
+  where
+    go : (b : Bool) → isShape (length table) ≡ b → AllPass table nodes
+    go true s =
+        let three : length table % 3 ≡ 0 = omega (arith, shape-says (length table) s .three-each) in
+        judge-says table three (sym (shape-judge table s) ∙ e)
+    go false s = absurd (good-fails (sym e ∙ no-shape-judge table s))
+
+module _ (table : List ℤ) (ws : List ℕ) (cs : List ℤ) (area : List ℕ) (room : Room ws cs area) (a : Answer) {ws' : List ℕ} {cs' : List ℤ} {area' : List ℕ}
+    (e : outcome (told a) (ws', cs', area') ≡ simplify table ws cs area) where
+  judged : {t : Told} → told a ≡ t → outcome t (ws', cs', area') ≡ packedInto (judgeTable table) (cleared 0 workPlaces ws) (cleared (pos 0) workPlaces cs) area
+  judged f = ap (λ (t : Told). outcome t (ws', cs', area')) (sym f) ∙ e ∙ after-room table ws cs area room
+
+  pub simplified : {n : ℕ} → a ≡ Done n → Simple table n area'
+  unfolding tableSum andThen packedInto
+  simplified {n} d = go (judgeTable table) refl (judged (ap told d))
+    where
+      go : (j : Judged (List Entry)) → judgeTable table ≡ j
+          → outcome (done n) (ws', cs', area') ≡ packedInto j (cleared 0 workPlaces ws) (cleared (pos 0) workPlaces cs) area → Simple table n area'
+      go (good nodes) is f =
+          let s = lastSum nodes in
+          let front = written-front (packed s) area (ap (λ (x : Areas). x .2) (areas-same f)) (sym (done-same f)) in
+          record {
+            sum = s;
+            is = rw is;
+            short = front .1;
+            packs = λ m h. record { accepted = last-accepted (judged-passes table nodes is .passed); bytes-are = ap (λ (k : ℕ). take k area') h ∙ front .0 };
+          }
+      go (fails refusal node) is f = absurd (no-outcome f)
+
+  pub not-simplified : {refusal : Refusal} {place : ℕ} → a ≡ Refused refusal place → tableSum table ≡ fails (number refusal) place
+  unfolding tableSum andThen packedInto
+  not-simplified {refusal} {place} d = go (judgeTable table) (judged (ap told d))
+    where
+      go : (j : Judged (List Entry)) → outcome (refused (number refusal) place) (ws', cs', area') ≡ packedInto j (cleared 0 workPlaces ws) (cleared (pos 0) workPlaces cs) area
+          → andThen j (λ nodes. good (lastSum nodes)) ≡ fails (number refusal) place
+      go (good nodes) f = absurd (no-outcome (sym f))
+      go (fails r node) f = refused-same (sym f)
+
+-- ---- Typed formulas.
+
+-- one that was read
+pub record Typed (text : List ℕ) (n : ℕ) (table : List ℤ) : Type 0 where
+  pub short : 3 * n ≤ length table
+  pub is : textSum text ≡ tableSum (take (3 * n) table)
+
+-- its table is the first part of the area
+pub table-again : {text : List ℕ} {n : ℕ} {table : List ℤ} → Typed text n table → (m : ℕ) → m ≡ 3 * n → textSum text ≡ tableSum (take m table)
+table-again {table = table} t m e = t .is ∙ ap (λ (k : ℕ). tableSum (take k table)) (sym e)
+
+module _ (text : List ℕ) (table : List ℤ) (room : tablePlaces ≤ length table) (a : Answer) {table' : List ℤ}
+    (e : outcome (told a) table' ≡ readFormula text table) where
+  read : {t : Told} → told a ≡ t → outcome t table' ≡ tableInto (judgeText text) table
+  unfolding readFormula
+  read f = ap (λ (t : Told). outcome t table') (sym f) ∙ e ∙ rw (le-leb tablePlaces (length table) room)
+
+  pub typed : {n : ℕ} → a ≡ Done n → Typed text n table'
+  unfolding textSum andThen tableInto
+  typed {n} d = go (judgeText text) refl (read (ap told d))
+    where
+      go : (j : Judged Tree) → judgeText text ≡ j → outcome (done n) table' ≡ tableInto j table → Typed text n table'
+      go (good t) is f =
+          let ks = nodesOf 0 t in
+          let long = table-length ks ∙ ap (λ (k : ℕ). 3 * k) (nodes-length 0 t ∙ sym (done-same f)) in
+          let front = written-front (tableOf ks) table (areas-same f) long in
+          record { short = front .1; is = rw is (ap tableSum (sym (front .0))) }
+      go (fails refusal place) is f = absurd (no-outcome f)
+
+  pub not-typed : {refusal : Refusal} {place : ℕ} → a ≡ Refused refusal place → textSum text ≡ fails (number refusal) place
+  unfolding textSum andThen tableInto
+  not-typed {refusal} {place} d = go (judgeText text) (read (ap told d))
+    where
+      go : (j : Judged Tree) → outcome (refused (number refusal) place) table' ≡ tableInto j table
+          → andThen j (λ t. tableSum (tableOf (nodesOf 0 t))) ≡ fails (number refusal) place
+      go (good t) f = absurd (no-outcome (sym f))
+      go (fails r p) f = refused-same (sym f)
+
+-- ---- What is listed.
+
+pub listed-sum : {j : Judged Sum} {s : Sum} → j ≡ good s → listed j ≡ sumLines s
+unfolding listed
+listed-sum e = rw e
+
+pub listed-refusal : {j : Judged Sum} {refusal place : ℕ} (n : ℕ) → j ≡ fails refusal place → n ≡ refusal → listed j ≡ refusalLine n place
+unfolding listed
+listed-refusal n e f = rw (e, f)
+
+-- lines that are equal are written alike
+pub listed-as : {l m : List ℕ} (area : List ℕ) {area' : List ℕ} {n : ℕ} → l ≡ m → (n ≡ length m) × (area' ≡ written m area) → (n ≡ length l) × (area' ≡ written l area)
+listed-as area e ends = (ends .0 ∙ ap (length {A = ℕ}) (sym e), ends .1 ∙ ap (λ (x : List ℕ). written x area) (sym e))
+
+-- ---- Listing itself: it answers no more bytes than the area has.
+
+pub list-within : (input area : List ℕ) (a : Answer) {area' : List ℕ} {n : ℕ} → outcome (told a) area' ≡ list input area → a ≡ Done n → n ≤ length area'
+unfolding list
+list-within input area a {area'} {n} e d =
+    go (leb (mostLines variables) (length area)) (listed (textSum (withoutNewline input))) (sym (ap (λ (b : Answer). outcome (told b) area') d) ∙ e)
+  where
+    go : (b : Bool) (lines : List ℕ) → outcome (done n) area' ≡ check b ROOM 0 area (outcome (done (length lines)) (written lines area)) → n ≤ length area'
+    go true lines f = omega (arith, done-same f, ap (length {A = ℕ}) (areas-same f), length-append lines (drop (length lines) area))
+    go false lines f = absurd (no-outcome f)

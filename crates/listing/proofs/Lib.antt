@@ -1,0 +1,9 @@
+pub mod Decimals
+pub mod Steps
+pub mod Widths
+pub mod Newline
+pub mod Answered
+pub mod Enough
+pub mod Meaning
+pub mod Unique
+pub mod Cases

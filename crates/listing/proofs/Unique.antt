@@ -1,0 +1,12 @@
+-- Each public function's contract leaves one outcome, as its caller sees it: the answer, and every place of the lent area.
+use denote.Ref.{now}
+use Rattle.answers.proofs.Outcomes.{One, OneLent, same}
+use Rattle.answers.proofs.Unique.{outcome-one}
+use Rattle.listing.proofs.list.Reads as list
+use Rattle.listing.proofs.most_input.Reads as most-input
+
+pub most-input-one : One most-input.Learnt
+most-input-one k a r r' e e' h h' = same h h'
+
+pub list-one : OneLent list.Learnt (λ k e. now (e .1 .0))
+list-one k a r r' e e' h h' = outcome-one r r' (same h h')
