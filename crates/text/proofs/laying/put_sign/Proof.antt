@@ -3,10 +3,9 @@ use mathlib.Core.Path.{refl}
 use Prim.Native.Nat.{_+_, _-_}
 use native.Mathlib.Omega.{arith}
 use borrow.Author.Needs.{needs}
-use borrow.Author.Tests.{eq-eqb, ne-eqb}
+use borrow.Author.Tests.{eq-eqb, ne-eqb, lt-ltb}
 use Rattle.text.specs.Signs.{minusSign}
 use Rattle.text.specs.Laid.{signedCount, signedTable}
-use Rattle.text.proofs.Table.{both-before}
 use Rattle.text.proofs.laying.put_sign.Statement.{statement}
 use Rattle.text.proofs.laying.put_sign.Tie as tie
 
@@ -23,8 +22,11 @@ sub-put c = search needs
 add-put : tie.Need-add-put
 add-put c = search needs
 
+-- (in whichever order the operands stand)
 put-requires-2 : tie.Need-put-requires-2
-put-requires-2 c κs = let n = c .before .before .before .before .args .count in both-before (n + 1) n (n - 1) (omega arith) (omega arith)
+put-requires-2 c κs =
+    let n = c .before .before .before .before .args .count in
+    rw (lt-ltb n (n + 1) (omega arith), lt-ltb (n - 1) (n + 1) (omega arith)) tt
 
 add-result : tie.Need-add-result
 add-result c = search needs
