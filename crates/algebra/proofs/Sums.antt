@@ -12,5 +12,6 @@ pub mod Coefficients
 pub mod Results
 pub mod Splits
 pub mod Slopes
+pub mod SlopeTerms
 pub mod Substitutes
 pub mod Margins

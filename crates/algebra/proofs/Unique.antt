@@ -19,6 +19,7 @@ use Rattle.algebra.proofs.Pattern.degree.Reads as degree
 use Rattle.algebra.proofs.Pattern.compare.Reads as compare
 use Rattle.algebra.proofs.Pattern.exponent.Reads as exponent
 use Rattle.algebra.proofs.Pattern.power.Reads as power
+use Rattle.algebra.proofs.Pattern.without.Reads as without
 use Rattle.algebra.proofs.Pattern.is_valid.Reads as is-valid
 use Rattle.algebra.proofs.Pattern.slope_step.Reads as slope-step
 
@@ -79,6 +80,9 @@ exponent-one k a r r' e e' h h' = same h h'
 
 pub power-one : One power.Learnt
 power-one k a r r' e e' h h' = pattern h h'
+
+pub without-one : One without.Learnt
+without-one k a r r' e e' h h' = pattern h h'
 
 pub is-valid-one : One is-valid.Learnt
 is-valid-one k a r r' e e' h h' = same h h'

@@ -3,7 +3,7 @@ ghost use mathlib.Core.Path.{_≡_};
 ghost use Prim.Native.Nat.{_+_, _*_, _-_, _≤_, _<_};
 ghost use lib.ListN.{set};
 ghost use Rattle.algebra.specs.Limits.{variables, largestDegree, mostTerms, largestWeight, mostNodes, workPlaces};
-ghost use Rattle.algebra.specs.Pattern.{emptyPattern, times, degree, exponent, lowered, order};
+ghost use Rattle.algebra.specs.Pattern.{emptyPattern, times, degree, exponent, lowered, without, order};
 ghost use Rattle.algebra.specs.Word.{word, exponents, isValid, Valid};
 ghost use Rattle.algebra.specs.Standing.{standing};
 
@@ -156,6 +156,16 @@ impl Pattern {
         ensures { λ r. ⌜ r .0 ≡ word (set (emptyPattern variables) v e) ⌝ }
     {
         Pattern(e << Pattern::bits_below(v))
+    }
+
+    // The pattern with no power of v.
+    pub fn without(self, v: u64) -> Pattern
+        requires { ⌜ Valid (self .0) ⌝ }
+        requires { ⌜ v < variables ⌝ }
+        ensures { λ r. ⌜ r .0 ≡ word (without v (exponents (self .0))) ⌝ }
+    {
+        let alone = Pattern::power(v, self.exponent(v));
+        Pattern(self.0 - alone.0)
     }
 
     // For any word: a caller's word is taken field by field. Each word is that of its eight bytes, so

@@ -1,4 +1,5 @@
 pub mod Refusals
 pub mod Answers
+pub mod Judge
 pub mod Areas
 pub mod Quoted

@@ -21,21 +21,20 @@ use Rattle.sums.specs.declared.Formed as declared
 use Rattle.sums.specs.declared.Formed.the-variants.{Terms}
 use Rattle.sums.proofs.Formed.{the-type}
 use Rattle.sums.proofs.Answering.{given, refused as refused-formed}
-use Rattle.nodes.specs.Judge.{Judged.good, Judged.fails}
+use Rattle.answers.specs.Judge.{Judged.good, Judged.fails}
 use Rattle.nodes.specs.declared.Kind as code
 use Rattle.nodes.specs.Node.{kindOf, Kind, numbersOf, tableOf, isNode, foundOf}
 use Rattle.nodes.specs.declared.Found as answer
 use Rattle.nodes.specs.declared.Found.the-variants.{Good, Fault as Faulty}
-use Rattle.nodes.specs.Formal.{formalDegree, formalWeight, nodeSpread, nodeSum}
+use Rattle.nodes.specs.Formal.{formalDegree, formalWeight, nodeSpread, nodeSum, EachAtMost}
 use Rattle.formula.specs.Table.{Entry, entry, degrees, weights, sums, entryOf, judgeNodes, isShape}
-use Rattle.nodes.specs.Capped.{EachAtMost}
 use Rattle.formula.specs.Checks.{Passed, Passed.none, Passed.more, Fault, Fault.node as node-fault, Fault.degree as degree-fault, Fault.weight as weight-fault, Fault.spread as spread-fault}
-use Rattle.nodes.specs.Part.{part}
+use Rattle.sums.specs.Part.{part}
 use Rattle.formula.specs.Simplify.{lastSum}
 use Rattle.nodes.specs.Work.{sumsAt, Keeps, nodeFormed, FormedAt}
 use Rattle.formula.specs.Last.{termsTold, KeepsLast}
 use Rattle.nodes.proofs.Found.{the-type as found-type}
-use Rattle.nodes.proofs.Parts.{drop-further}
+use Rattle.sums.proofs.Parts.{drop-further}
 use Rattle.nodes.proofs.Spelled.{readNumbers, Spells, read-says}
 use Rattle.formula.proofs.Sound.{AllSound, sum-of, degree-of, weight-of, sound-at, own-degree, own-weight}
 use Rattle.formula.proofs.Passing.{passed-sound, table-more, fault-judge, all-judge}

@@ -13,7 +13,7 @@ use Rattle.answers.specs.Refusals.{SHAPE, NODE, DEGREE, WEIGHT, SPREAD}
 use Rattle.numbers.specs.Number.{groupsOf, numberBytes}
 use Rattle.numbers.specs.Code.{code}
 use Rattle.packed.specs.Packed.{exponentBytes, termBytes, bytesOfTerms, packed}
-use Rattle.nodes.specs.Judge.{Judged, Judged.good, Judged.fails, holding, andThen}
+use Rattle.answers.specs.Judge.{Judged, Judged.good, Judged.fails, holding, andThen}
 use Rattle.nodes.specs.Node.{Kind, Kind.integer, Kind.variable, Kind.sum, Kind.product, Kind.power, tableOf, isIn, readKind, readNode}
 use Rattle.nodes.specs.Formal.{formalDegree, formalWeight, nodeSpread, nodeSum}
 use Rattle.formula.specs.Table.{Entry, judgeNode, judgeNodes, isShape, judgeTable}

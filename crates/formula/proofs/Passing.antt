@@ -11,7 +11,7 @@ use lib.IntN.{ℤ}
 use lib.ListN.{length, length-append}
 use Rattle.algebra.specs.Limits.{largestDegree, mostTerms, largestWeight}
 use Rattle.answers.specs.Refusals.{SHAPE, NODE, DEGREE, WEIGHT, SPREAD}
-use Rattle.nodes.specs.Judge.{Judged, Judged.good, Judged.fails, holding, andThen}
+use Rattle.answers.specs.Judge.{Judged, Judged.good, Judged.fails, holding, andThen}
 use Rattle.nodes.specs.Node.{Kind, numbersOf, tableOf, isNode}
 use Rattle.nodes.specs.Formal.{formalDegree, formalWeight, nodeSpread}
 use Rattle.formula.specs.Table.{Entry, degrees, weights, sums, entryOf, judgeNode, judgeNodes, isShape, judgeTable}

@@ -1,59 +1,32 @@
 -- Simplify, as its caller sees it: exactly when it is done, with which sum, and exactly when it is refused, and how.
 use mathlib.Core.Path.{_≡_, refl, sym, _∙_, ap, subst}
-use mathlib.Core.Bool.{Bool, true, false, _&&_, true≢false}
+use mathlib.Core.Bool.{Bool, true, false}
 use mathlib.Core.List.{List, []}
 use Prim.Native.Nat.{ℕ, _*_, _%_, _/_, _≤_, _<_}
 use native.Mathlib.Omega.{arith}
-use lib.Dec.{T, leb, eqb, leb→le, eqb→eq}
+use lib.Dec.{leb, eqb, leb→le, eqb→eq}
 use lib.IntN.{ℤ, pos}
 use lib.ListN.{length}
 use borrow.Author.Tests.{le-leb}
 use Rattle.algebra.specs.Limits.{variables, mostNodes, workPlaces}
 use Rattle.algebra.specs.Sum.{Sum}
 use Rattle.algebra.specs.Accepted.{Accepted}
-use Rattle.algebra.proofs.Numbers.Test.{and-l, and-r, true-is, false-is}
 use Rattle.answers.specs.Refusals.{ROOM, SHAPE}
 use Rattle.answers.specs.Answers.{Told, Told.done, Told.refused, Outcome, outcome}
 use Rattle.answers.specs.Areas.{written, cleared}
-use Rattle.packed.specs.Packed.{packed, mostBytes}
+use Rattle.answers.specs.Judge.{Judged, Judged.good, andThen}
+use Rattle.packed.specs.Packed.{packed}
+use Rattle.packed.specs.Result.{Areas, packedInto, beside}
+use Rattle.packed.proofs.Working.{each-holds, Room, clearedWith, hasRoom, tested-room, tested-none, with-room, without-room}
 use Rattle.nodes.specs.Node.{Kind, tableOf}
-use Rattle.formula.specs.Table.{Entry, judgeNodes, judgeTable, isShape}
-use Rattle.formula.specs.Simplify.{Areas, lastSum, packedInto, simplify}
+use Rattle.formula.specs.Table.{Entry, judgeNodes, isShape}
+use Rattle.formula.specs.Simplify.{lastSum, tableSum, simplify}
 use Rattle.formula.specs.Checks.{Passed, FirstFault}
 use Rattle.formula.specs.Meaning.{Means}
 use Rattle.formula.proofs.Passing.{table-length, AllPass, all-judge, fault-judge, shape-judge, no-shape-judge, Verdict, Verdict.all, Verdict.first, verdict}
 use Rattle.formula.proofs.Meaning.{last-accepted, passed-means}
 
--- ---- ROOM and SHAPE.
-
-each-holds : (a b c : Bool) → a && (b && c) ≡ true → T a × T b × T c
-each-holds a b c e =
-    let t : T (a && (b && c)) = rw e tt in
-    let rest = and-r a (b && c) t in
-    (and-l a (b && c) t, and-l b c rest, and-r b c rest)
-
--- the lent areas are long enough
-pub record Room (ws : List ℕ) (cs : List ℤ) (area : List ℕ) : Type 0 where
-  pub words : workPlaces ≤ length ws
-  pub coefficients : workPlaces ≤ length cs
-  pub result : mostBytes variables ≤ length area
-
-module _ (ws : List ℕ) (cs : List ℤ) (area : List ℕ) where
-  abbrev hasRoom : Bool
-  hasRoom = leb workPlaces (length ws) && (leb workPlaces (length cs) && leb (mostBytes variables) (length area))
-
-  room-tested : Room ws cs area → hasRoom ≡ true
-  room-tested r =
-      rw (le-leb workPlaces (length ws) (r .words), le-leb workPlaces (length cs) (r .coefficients), le-leb (mostBytes variables) (length area) (r .result))
-
-  tested-room : hasRoom ≡ true → Room ws cs area
-  tested-room e =
-      let h = each-holds (leb workPlaces (length ws)) (leb workPlaces (length cs)) (leb (mostBytes variables) (length area)) e in
-      record {
-        words = leb→le workPlaces (length ws) (h .0);
-        coefficients = leb→le workPlaces (length cs) (h .1);
-        result = leb→le (mostBytes variables) (length area) (h .2);
-      }
+-- ---- SHAPE.
 
 -- a table of so many nodes, three numbers each
 pub record Shaped (n nodes : ℕ) : Type 0 where
@@ -80,10 +53,6 @@ nodes-shape m some few =
 
 -- ---- The outcomes.
 
--- the areas after any answer but ROOM: both work areas cleared, and the result area
-abbrev pub clearedWith : List ℕ → List ℤ → List ℕ → Areas
-clearedWith ws cs result = (cleared 0 workPlaces ws, cleared (pos 0) workPlaces cs, result)
-
 module _ (table : List ℤ) (ws : List ℕ) (cs : List ℤ) (area : List ℕ) where
   -- it is done: every check passes, and the sum is what ordinary algebra gives the table's formula
   pub record Simplified (n : ℕ) (areas : Areas) : Type 0 where
@@ -109,34 +78,30 @@ module _ (table : List ℤ) (ws : List ℕ) (cs : List ℤ) (area : List ℕ) wh
 
   -- ---- Check by check.
 
-  pub after-room : Room ws cs area → simplify table ws cs area ≡ packedInto (judgeTable table) (cleared 0 workPlaces ws) (cleared (pos 0) workPlaces cs) area
-  unfolding simplify
-  after-room r = rw (room-tested ws cs area r)
-
-  after-shape : Room ws cs area → isShape (length table) ≡ true
-      → simplify table ws cs area ≡ packedInto (judgeNodes [] table) (cleared 0 workPlaces ws) (cleared (pos 0) workPlaces cs) area
-  after-shape r s = after-room r ∙ ap (λ j. packedInto j (cleared 0 workPlaces ws) (cleared (pos 0) workPlaces cs) area) (shape-judge table s)
+  -- the nodes have been judged, whatever came of it
+  after-shape : Room ws cs area → isShape (length table) ≡ true → {j : Judged (List Entry)} → judgeNodes [] table ≡ j
+      → simplify table ws cs area
+      ≡ beside (cleared 0 workPlaces ws) (cleared (pos 0) workPlaces cs) (packedInto (andThen j (λ nodes. good (lastSum nodes))) area)
+  unfolding simplify tableSum
+  after-shape r s e = with-room _ ws cs area r ∙ rw (shape-judge table s, e)
 
   after-nodes : Room ws cs area → isShape (length table) ≡ true → {es : List Entry} → AllPass table es
       → let bytes = packed (lastSum es) in simplify table ws cs area ≡ outcome (done (length bytes)) (clearedWith ws cs (written bytes area))
-  unfolding packedInto
-  after-nodes r s a = after-shape r s ∙ rw (all-judge a)
-
-  pub without-room : (Room ws cs area → ⊥) → simplify table ws cs area ≡ outcome (refused ROOM 0) (ws, cs, area)
-  unfolding simplify
-  without-room f = rw (false-is (hasRoom ws cs area) (λ t. f (tested-room ws cs area (true-is (hasRoom ws cs area) t))))
+  unfolding packedInto andThen
+  after-nodes r s a = after-shape r s (all-judge a)
 
   without-shape : Room ws cs area → isShape (length table) ≡ false → simplify table ws cs area ≡ outcome (refused SHAPE 0) (clearedWith ws cs area)
-  unfolding packedInto
-  without-shape r s = after-room r ∙ rw (no-shape-judge table s)
+  unfolding simplify tableSum packedInto andThen
+  without-shape r s = with-room _ ws cs area r ∙ rw (no-shape-judge table s)
 
   at-fault : {refusal p : ℕ} → Room ws cs area → isShape (length table) ≡ true → FirstFault table refusal p
       → simplify table ws cs area ≡ outcome (refused refusal p) (clearedWith ws cs area)
-  unfolding packedInto
-  at-fault r s f = after-shape r s ∙ rw (fault-judge f)
+  unfolding packedInto andThen
+  at-fault r s f = after-shape r s (fault-judge f)
 
   pub refuses-simplify : {refusal p : ℕ} {areas : Areas} → Refuses refusal p areas → simplify table ws cs area ≡ outcome (refused refusal p) areas
-  refuses-simplify (no-room f) = without-room f
+  unfolding simplify
+  refuses-simplify (no-room f) = without-room (tableSum table) ws cs area f
   refuses-simplify (no-shape r s) = without-shape r s
   refuses-simplify (at-node r s f) = at-fault r s f
 
@@ -189,7 +154,7 @@ module _ (table : List ℤ) (ws : List ℕ) (cs : List ℤ) (area : List ℕ) wh
       go : (b : Bool) → hasRoom ws cs area ≡ b → (c : Bool) → isShape (length table) ≡ c → Explains (simplify table ws cs area)
       go true r true s = judged (tested-room ws cs area r) s (verdict table (omega (arith, shape-says (length table) s .three-each)))
       go true r false s = refused-so (no-shape (tested-room ws cs area r) s)
-      go false r c s = refused-so (no-room (λ h. true≢false (sym (room-tested ws cs area h) ∙ r)))
+      go false r c s = refused-so (no-room (tested-none ws cs area r))
 
   pub simplify-means : {n : ℕ} {areas : Areas} → simplify table ws cs area ≡ outcome (done n) areas → Simplified table ws cs area n areas
   simplify-means e = subst Explains e explained

@@ -7,23 +7,21 @@ use native.Mathlib.Decide.{decLt}
 use lib.IntN.{ℤ}
 use lib.ListN.{length, getD, take, set, length-append, length-map, List·getD-append}
 use lib.Seq.{ext-getD, getD-at, getD-set-same, getD-set-other}
-use Rattle.algebra.specs.Limits.{variables, mostTerms}
+use Rattle.algebra.specs.Limits.{mostTerms}
 use Rattle.algebra.specs.Sum.{Sum}
-use Rattle.algebra.specs.Accepted.{Accepted}
 use Rattle.algebra.specs.Word.{terms}
 use Rattle.algebra.specs.Held.{wordsOf, coefficientsOf}
-use Rattle.algebra.proofs.Sums.Ordered.{parts}
 use Rattle.answers.proofs.Writes.{written-front}
-use Rattle.sums.proofs.Holding.{Holdable, spells, holds}
+use Rattle.sums.proofs.Holding.{spells, holds, accepted-holdable}
 use Rattle.sums.proofs.Answering.{Given}
-use Rattle.nodes.specs.Part.{part}
-use Rattle.nodes.specs.Judge.{Judged, Judged.good, Judged.fails}
+use Rattle.sums.specs.Part.{part}
+use Rattle.answers.specs.Judge.{Judged, Judged.good, Judged.fails}
 use Rattle.formula.specs.Table.{Entry, entry, sums}
 use Rattle.formula.specs.Simplify.{lastSum}
 use Rattle.nodes.specs.Work.{sumsAt, Keeps}
 use Rattle.formula.specs.Last.{KeepsLast}
 use Rattle.formula.proofs.Sound.{nodeAt, AllSound, sum-of, sound-accepted}
-use Rattle.nodes.proofs.Parts.{part-before}
+use Rattle.sums.proofs.Parts.{part-before}
 use Rattle.nodes.proofs.Working.{sums-length, sum-there}
 
 -- the sum s stands in the first n places of the part of node j
@@ -35,11 +33,6 @@ pub record Stands (n j : ℕ) (ws : List ℕ) (cs : List ℤ) (s : Sum) : Type 0
 -- that of each node, ns having the numbers of terms
 abbrev pub AllStand : List Entry → List ℕ → List ℕ → List ℤ → Type 0
 AllStand es ns ws cs = (j : ℕ) → j < length es → Stands (getD ns j 0) j ws cs (nodeAt es j .sum)
-
-pub accepted-holdable : {s : Sum} → Accepted variables s → Holdable s
-accepted-holdable {s} a =
-    let p = parts variables s (a .isOrdered) in
-    record { long = p .long; strict = p .strict; low = a .low; few = a .few }
 
 -- a sum that was formed into the part of node i
 pub given-stands : {n : ℕ} (i : ℕ) (ws : List ℕ) (cs : List ℤ) (ws' : List ℕ) (cs' : List ℤ) (spread : ℕ) (s : Sum)

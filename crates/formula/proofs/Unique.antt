@@ -2,7 +2,7 @@
 use denote.Ref.{now}
 use Rattle.answers.proofs.Outcomes.{OneLent, same}
 use Rattle.answers.proofs.Unique.{outcome-one}
-use Rattle.formula.specs.Simplify.{Areas}
+use Rattle.packed.specs.Result.{Areas}
 use Rattle.formula.proofs.simplify.Reads as simplify
 
 pub simplify-one : OneLent simplify.Learnt {L = Areas} (λ k e. (now (e .1 .0), now (e .1 .1 .0), now (e .1 .1 .1 .0)))

@@ -6,8 +6,8 @@ use lib.IntN.{ℤ}
 use lib.ListN.{length, take}
 use Rattle.algebra.specs.Held.{wordsOf, coefficientsOf}
 use Rattle.answers.specs.Answers.{Told, Told.done, Told.refused}
-use Rattle.nodes.specs.Judge.{Judged, Judged.good, Judged.fails}
-use Rattle.nodes.specs.Part.{part}
+use Rattle.answers.specs.Judge.{Judged, Judged.good, Judged.fails}
+use Rattle.sums.specs.Part.{part}
 use Rattle.formula.specs.Table.{Entry}
 use Rattle.formula.specs.Simplify.{lastSum}
 

@@ -8,7 +8,7 @@ use lib.ListN.{length}
 use Rattle.algebra.specs.Limits.{largestDegree, mostTerms, largestWeight, mostNodes}
 use Rattle.algebra.specs.Sum.{Sum}
 use Rattle.answers.specs.Refusals.{SHAPE, DEGREE, WEIGHT, SPREAD}
-use Rattle.nodes.specs.Judge.{Judged, Judged.good, holding, andThen}
+use Rattle.answers.specs.Judge.{Judged, Judged.good, holding, andThen}
 use Rattle.nodes.specs.Node.{Kind, readNode}
 use Rattle.nodes.specs.Formal.{formalDegree, formalWeight, nodeSpread, nodeSum}
 

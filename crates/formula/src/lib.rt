@@ -19,8 +19,9 @@ ghost use lib.ListN.{length, drop};
 ghost use Rattle.algebra.specs.Limits.{variables, workPlaces};
 ghost use Rattle.answers.specs.Answers.{told, outcome};
 ghost use Rattle.packed.specs.Packed.{mostBytes};
-ghost use Rattle.formula.specs.Table.{judgeNodes, judgeTable, isShape};
-ghost use Rattle.formula.specs.Simplify.{packedInto, simplify};
+ghost use Rattle.packed.specs.Result.{packedInto};
+ghost use Rattle.formula.specs.Table.{judgeNodes, isShape};
+ghost use Rattle.formula.specs.Simplify.{tableSum, simplify};
 ghost use Rattle.formula.specs.Last.{termsTold, KeepsLast};
 
 // Whether a table's length is 3 × (1..64).
@@ -93,7 +94,7 @@ fn form_table(
     requires { ⌜ workPlaces ≤ length (now patterns) ⌝ }
     requires { ⌜ workPlaces ≤ length (now coefficients) ⌝ }
     requires { ⌜ mostBytes variables ≤ length (now result) ⌝ }
-    ensures { λ r. ⌜ outcome (told r) (now (patterns .exit), now (coefficients .exit), now (result .exit)) ≡ packedInto (judgeTable (now (table .entry))) (now (patterns .exit)) (now (coefficients .exit)) (now (result .entry)) ⌝ }
+    ensures { λ r. ⌜ outcome (told r) (now (result .exit)) ≡ packedInto (tableSum (now (table .entry))) (now (result .entry)) ⌝ }
     ensures { λ r. ⌜ drop workPlaces (now (patterns .exit)) ≡ drop workPlaces (now (patterns .entry)) ⌝ }
     ensures { λ r. ⌜ drop workPlaces (now (coefficients .exit)) ≡ drop workPlaces (now (coefficients .entry)) ⌝ }
 {

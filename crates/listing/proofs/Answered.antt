@@ -24,22 +24,24 @@ use Rattle.answers.specs.declared.Refusal.{Refusal}
 use Rattle.answers.proofs.Writes.{written-front}
 use Rattle.packed.specs.Unpack.{unpack}
 use Rattle.packed.specs.Packed.{packed}
+use Rattle.packed.specs.Result.{Areas, packedInto, beside}
+use Rattle.packed.proofs.Working.{Room, with-room}
 use Rattle.packed.proofs.Inverse.{unpack-accepts}
-use Rattle.nodes.specs.Judge.{Judged, Judged.good, Judged.fails, andThen}
+use Rattle.answers.specs.Judge.{Judged, Judged.good, Judged.fails, andThen}
 use Rattle.nodes.specs.Node.{tableOf}
 use Rattle.formula.specs.Table.{Entry, judgeTable, isShape}
-use Rattle.formula.specs.Simplify.{Areas, lastSum, packedInto, simplify}
+use Rattle.formula.specs.Simplify.{lastSum, tableSum, simplify}
 use Rattle.formula.proofs.Meaning.{last-accepted}
 use Rattle.formula.proofs.Passing.{table-length, AllPass, judge-says, shape-judge, no-shape-judge}
-use Rattle.formula.proofs.Simplifying.{Room, after-room, shape-says}
+use Rattle.formula.proofs.Simplifying.{shape-says}
 use Rattle.text.specs.Limits.{tablePlaces}
 use Rattle.text.specs.Tree.{Tree, nodesOf}
 use Rattle.text.specs.Text.{judgeText, tableInto, readFormula}
-use Rattle.text.proofs.Checks.{good-fails}
+use Rattle.answers.proofs.Judging.{good-fails}
 use Rattle.text.proofs.Trees.{nodes-length}
 use Rattle.listing.specs.Bytes.{Packs}
 use Rattle.listing.specs.Lines.{mostLines, sumLines, refusalLine}
-use Rattle.listing.specs.Listing.{tableSum, textSum, listed, withoutNewline, list}
+use Rattle.listing.specs.Listing.{textSum, listed, withoutNewline, list}
 
 -- ---- Answers.
 
@@ -109,15 +111,17 @@ judged-passes table nodes e = go (isShape (length table)) refl
 
 module _ (table : List ℤ) (ws : List ℕ) (cs : List ℤ) (area : List ℕ) (room : Room ws cs area) (a : Answer) {ws' : List ℕ} {cs' : List ℤ} {area' : List ℕ}
     (e : outcome (told a) (ws', cs', area') ≡ simplify table ws cs area) where
-  judged : {t : Told} → told a ≡ t → outcome t (ws', cs', area') ≡ packedInto (judgeTable table) (cleared 0 workPlaces ws) (cleared (pos 0) workPlaces cs) area
-  judged f = ap (λ (t : Told). outcome t (ws', cs', area')) (sym f) ∙ e ∙ after-room table ws cs area room
+  judged : {t : Told} → told a ≡ t → outcome t (ws', cs', area') ≡ beside (cleared 0 workPlaces ws) (cleared (pos 0) workPlaces cs) (packedInto (tableSum table) area)
+  unfolding simplify
+  judged f = ap (λ (t : Told). outcome t (ws', cs', area')) (sym f) ∙ e ∙ with-room (tableSum table) ws cs area room
 
   pub simplified : {n : ℕ} → a ≡ Done n → Simple table n area'
   unfolding tableSum andThen packedInto
   simplified {n} d = go (judgeTable table) refl (judged (ap told d))
     where
       go : (j : Judged (List Entry)) → judgeTable table ≡ j
-          → outcome (done n) (ws', cs', area') ≡ packedInto j (cleared 0 workPlaces ws) (cleared (pos 0) workPlaces cs) area → Simple table n area'
+          → outcome (done n) (ws', cs', area') ≡ beside (cleared 0 workPlaces ws) (cleared (pos 0) workPlaces cs) (packedInto (andThen j (λ nodes. good (lastSum nodes))) area)
+          → Simple table n area'
       go (good nodes) is f =
           let s = lastSum nodes in
           let front = written-front (packed s) area (ap (λ (x : Areas). x .2) (areas-same f)) (sym (done-same f)) in
@@ -130,12 +134,12 @@ module _ (table : List ℤ) (ws : List ℕ) (cs : List ℤ) (area : List ℕ) (r
       go (fails refusal node) is f = absurd (no-outcome f)
 
   pub not-simplified : {refusal : Refusal} {place : ℕ} → a ≡ Refused refusal place → tableSum table ≡ fails (number refusal) place
-  unfolding tableSum andThen packedInto
-  not-simplified {refusal} {place} d = go (judgeTable table) (judged (ap told d))
+  unfolding packedInto
+  not-simplified {refusal} {place} d = go (tableSum table) (judged (ap told d))
     where
-      go : (j : Judged (List Entry)) → outcome (refused (number refusal) place) (ws', cs', area') ≡ packedInto j (cleared 0 workPlaces ws) (cleared (pos 0) workPlaces cs) area
-          → andThen j (λ nodes. good (lastSum nodes)) ≡ fails (number refusal) place
-      go (good nodes) f = absurd (no-outcome (sym f))
+      go : (j : Judged Sum) → outcome (refused (number refusal) place) (ws', cs', area') ≡ beside (cleared 0 workPlaces ws) (cleared (pos 0) workPlaces cs) (packedInto j area)
+          → j ≡ fails (number refusal) place
+      go (good s) f = absurd (no-outcome (sym f))
       go (fails r node) f = refused-same (sym f)
 
 -- ---- Typed formulas.

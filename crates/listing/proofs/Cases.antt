@@ -7,7 +7,7 @@ use Rattle.algebra.specs.Pattern.{times, degree, same, thenBy, byPowers, order}
 use Rattle.algebra.specs.Collect.{place, insert, gather, keep, dropZeros, collect, occurs, countNew, spread}
 use Rattle.algebra.specs.Arithmetic as arithmetic
 use Rattle.algebra.specs.Arithmetic.{row, pairs, _⊕_, sumSpread, _⊗_, productSpread, powerSpread}
-use Rattle.nodes.specs.Judge.{holding, andThen}
+use Rattle.answers.specs.Judge.{holding, andThen}
 use Rattle.nodes.specs.Node.{tableOf, isIn, readKind, readNode}
 use Rattle.nodes.specs.Formal.{formalDegree, formalWeight, nodeSpread, nodeSum}
 use Rattle.formula.specs.Table.{judgeNode, judgeNodes, isShape, judgeTable}
@@ -19,7 +19,8 @@ use Rattle.text.specs.Reader.{takes, moreDigits, digitsAt, readAtom, readExpone
 use Rattle.text.specs.Text.{judgeText}
 use Rattle.listing.specs.Decimal.{digitsOf, decimal, signedDecimal}
 use Rattle.listing.specs.Lines.{numbered, exponentsLine, termLine, termLines, sumLines, refusalLine}
-use Rattle.listing.specs.Listing.{tableSum, textSum, listed, withoutNewline}
+use Rattle.formula.specs.Simplify.{tableSum}
+use Rattle.listing.specs.Listing.{textSum, listed, withoutNewline}
 
 -- ---- A case is an input, with what is printed.
 

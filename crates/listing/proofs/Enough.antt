@@ -8,7 +8,7 @@ use lib.Dec.{leb}
 use lib.ListN.{length, take}
 use lib.Seq.{take-all, length-take-le}
 use Rattle.answers.specs.Refusals.{TEXT}
-use Rattle.nodes.specs.Judge.{Judged.fails, holding, andThen}
+use Rattle.answers.specs.Judge.{Judged.fails, holding, andThen}
 use Rattle.text.specs.Limits.{longestText}
 use Rattle.text.specs.Text.{judgeText}
 use Rattle.text.proofs.Byte.{decide}

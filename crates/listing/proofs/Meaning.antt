@@ -13,11 +13,11 @@ use Rattle.algebra.specs.Sum.{Sum}
 use Rattle.algebra.specs.Value.{value}
 use Rattle.algebra.specs.Accepted.{Accepted}
 use Rattle.answers.specs.Refusals.{TEXT, NODES}
-use Rattle.nodes.specs.Judge.{Judged, Judged.good, Judged.fails, holding, andThen}
+use Rattle.answers.specs.Judge.{Judged, Judged.good, Judged.fails, holding, andThen}
 use Rattle.nodes.specs.Node.{tableOf}
 use Rattle.formula.specs.Meaning.{formulaValue}
 use Rattle.formula.specs.Table.{Entry, judgeTable}
-use Rattle.formula.specs.Simplify.{lastSum}
+use Rattle.formula.specs.Simplify.{lastSum, tableSum}
 use Rattle.formula.proofs.Meaning.{last-accepted, passed-means}
 use Rattle.formula.proofs.Tables.{table-one}
 use Rattle.text.specs.Limits.{longestText}
@@ -28,7 +28,7 @@ use Rattle.text.specs.Text.{judgeText}
 use Rattle.text.proofs.Fitting.{TooMuch, Passable, formula-passable}
 use Rattle.text.proofs.Formulas.{formula-read, stops-longest}
 use Rattle.text.proofs.Meaning.{tree-value}
-use Rattle.listing.specs.Listing.{tableSum, textSum}
+use Rattle.listing.specs.Listing.{textSum}
 use Rattle.listing.proofs.Answered.{judged-passes}
 
 -- ---- The text.

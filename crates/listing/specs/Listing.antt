@@ -3,27 +3,21 @@ use mathlib.Core.Bool.{cond}
 use mathlib.Core.List.{List, [], _∷_}
 use Prim.Native.Nat.{ℕ, _+_}
 use lib.Dec.{eqb, leb}
-use lib.IntN.{ℤ}
 use lib.ListN.{length}
 use Rattle.algebra.specs.Limits.{variables}
 use Rattle.algebra.specs.Sum.{Sum}
 use Rattle.answers.specs.Refusals.{ROOM}
 use Rattle.answers.specs.Answers.{Told.done, Outcome, outcome, check}
 use Rattle.answers.specs.Areas.{written}
-use Rattle.nodes.specs.Judge.{Judged, Judged.good, Judged.fails, andThen}
+use Rattle.answers.specs.Judge.{Judged, Judged.good, Judged.fails, andThen}
 use Rattle.nodes.specs.Node.{tableOf}
-use Rattle.formula.specs.Table.{judgeTable}
-use Rattle.formula.specs.Simplify.{lastSum}
+use Rattle.formula.specs.Simplify.{tableSum}
 use Rattle.text.specs.Limits.{longestText}
 use Rattle.text.specs.Tree.{nodesOf}
 use Rattle.text.specs.Text.{judgeText}
 use Rattle.listing.specs.Lines.{newline, mostLines, sumLines, refusalLine}
 
--- ---- The sum of a table and of a text, or the first refusal on the way.
-
-unfoldable pub tableSum : List ℤ → Judged Sum
-tableSum table = andThen (judgeTable table) (λ nodes. good (lastSum nodes))
-
+-- the sum of a text, or the first refusal on the way
 unfoldable pub textSum : List ℕ → Judged Sum
 textSum text = andThen (judgeText text) (λ t. tableSum (tableOf (nodesOf 0 t)))
 

@@ -13,7 +13,8 @@ ghost use Rattle.answers.specs.Areas.{written};
 ghost use Rattle.algebra.specs.Sum.{Sum};
 ghost use Rattle.listing.specs.Lines.{mostLines, sumLines};
 ghost use Rattle.listing.specs.Bytes.{Packs, Packed};
-ghost use Rattle.listing.specs.Listing.{tableSum, textSum, listed, withoutNewline, mostInput, list};
+ghost use Rattle.formula.specs.Simplify.{tableSum};
+ghost use Rattle.listing.specs.Listing.{textSum, listed, withoutNewline, mostInput, list};
 
 mod decimal;
 mod lines;

@@ -1,8 +1,6 @@
 -- The laws that other crates cite; the proofs of the functions stand beside them, a folder each.
 pub mod Reading
-pub mod Weighing
 pub mod Formally
 pub mod Spelled
-pub mod Parts
 pub mod Working
 pub mod Unique

@@ -12,7 +12,7 @@ use Rattle.algebra.specs.Limits.{variables, largestDegree}
 use Rattle.algebra.specs.Sum.{isZero}
 use Rattle.answers.specs.Refusals.{NODE}
 use Rattle.numbers.proofs.Signs.{held, Up, Down}
-use Rattle.nodes.specs.Judge.{Judged, Judged.good, Judged.fails, holding}
+use Rattle.answers.specs.Judge.{Judged, Judged.good, Judged.fails, holding}
 use Rattle.nodes.specs.Node.{Kind, Kind.integer, Kind.variable, Kind.sum, Kind.product, Kind.power, isIn, readKind, readNode}
 
 -- ---- What the machine's tests say of a signed number.

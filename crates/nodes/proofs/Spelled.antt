@@ -12,7 +12,7 @@ use Rattle.algebra.specs.Limits.{variables, largestDegree}
 use Rattle.algebra.specs.Sum.{isZero}
 use Rattle.algebra.proofs.Numbers.Test.{and, and-l, and-r}
 use Rattle.answers.specs.Refusals.{NODE}
-use Rattle.nodes.specs.Judge.{Judged, Judged.good, Judged.fails, holding}
+use Rattle.answers.specs.Judge.{Judged, Judged.good, Judged.fails, holding}
 use Rattle.nodes.specs.Node.{Kind, Kind.integer, Kind.variable, Kind.sum, Kind.product, Kind.power, numbersOf, isNode, isIn, readKind, readNode}
 use Rattle.nodes.proofs.Formally.{two-children, base-child}
 use Rattle.nodes.proofs.Reading.{integer-read, variable-read, sum-read, product-read, power-read}

@@ -12,9 +12,9 @@ use Rattle.answers.proofs.Outcomes.{One, OneLent, same}
 use Rattle.algebra.specs.Sum.{Sum as AlgebraSum}
 use Rattle.sums.specs.Formed.{Formed}
 use Rattle.sums.proofs.Unique.{formed-one}
-use Rattle.nodes.specs.Judge.{Judged, Judged.good, Judged.fails}
+use Rattle.answers.specs.Judge.{Judged, Judged.good, Judged.fails}
 use Rattle.nodes.specs.Node.{Kind, Kind.integer, Kind.variable, Kind.sum, Kind.product, Kind.power, kindOf, foundOf}
-use Rattle.nodes.specs.Part.{part}
+use Rattle.sums.specs.Part.{part}
 use Rattle.nodes.specs.Work.{FormedAt}
 use Rattle.nodes.specs.declared.Kind as code
 use Rattle.nodes.specs.declared.Kind.the-variants.{Integer, Variable, Sum, Product, Power}

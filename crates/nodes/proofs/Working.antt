@@ -18,13 +18,13 @@ use Rattle.answers.specs.Areas.{written}
 use Rattle.sums.specs.Asked.{Room}
 use Rattle.sums.specs.Formed.{Formed, Formed.formed, within, formedInto, sumOf, productOf, powerOf}
 use Rattle.nodes.specs.declared.Kind as code
-use Rattle.nodes.specs.Node.{Kind, Kind.integer, Kind.variable, Kind.power, kindOf}
+use Rattle.nodes.specs.Node.{Kind.integer, Kind.variable, Kind.power, kindOf}
 use Rattle.nodes.specs.Formal.{formalDegree, formalWeight, nodeSpread, nodeSum}
 use Rattle.sums.proofs.Holding.{terms-many, holdable}
 use Rattle.sums.proofs.Fronts.{Front, front-written, front-is}
-use Rattle.nodes.specs.Part.{part}
+use Rattle.sums.specs.Part.{part}
 use Rattle.nodes.specs.Work.{twoOf, pairOf, sumAt, sumsAt, Keeps, nodeFormed, FormedAt, Ready}
-use Rattle.nodes.proofs.Parts.{span, lent, lent-length, part-length, part-put, before-put, after-put}
+use Rattle.sums.proofs.Parts.{span, lent, lent-length, part-length, part-put, before-put, after-put}
 
 -- ---- Operands.
 

@@ -8,7 +8,7 @@ use lib.IntN.{ℤ, pos, negsuc, natAbs}
 use Rattle.algebra.specs.Limits.{variables, largestDegree}
 use Rattle.algebra.specs.Sum.{isZero}
 use Rattle.answers.specs.Refusals.{NODE}
-use Rattle.nodes.specs.Judge.{Judged, Judged.good, Judged.fails, holding}
+use Rattle.answers.specs.Judge.{Judged, Judged.good, Judged.fails, holding}
 use Rattle.nodes.specs.declared.Kind as declared
 use Rattle.nodes.specs.declared.Kind.the-variants as code
 use Rattle.nodes.specs.declared.Found as answer

@@ -12,7 +12,7 @@ use Rattle.algebra.specs.Word.{terms}
 use Rattle.algebra.specs.Held.{firstTerms}
 use Rattle.sums.specs.Held.{Held}
 use Rattle.sums.specs.Formed.{Formed, within, formedInto}
-use Rattle.nodes.specs.Part.{part}
+use Rattle.sums.specs.Part.{part}
 use Rattle.nodes.specs.Node.{Kind, Kind.sum, Kind.product, isNode}
 use Rattle.nodes.specs.Formal.{formalDegree, formalWeight, nodeSpread, nodeSum}
 

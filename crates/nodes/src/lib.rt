@@ -1,15 +1,13 @@
 // Nodes of a formula: read from their three numbers, their formal degree and weight, and their sums in the work areas.
-use algebra::LARGEST_WEIGHT;
 use algebra::Pattern;
 ghost use mathlib.Core.Path.{_≡_};
-ghost use Prim.Native.Nat.{_*_, _^_, max};
 ghost use lib.Dec.{T};
 ghost use lib.IntN.{pos};
 ghost use lib.ListN.{length};
 ghost use Rattle.algebra.specs.Limits.{largestDegree, largestWeight};
 ghost use Rattle.nodes.specs.Node.{isIn, isNode, kindOf, foundOf, readNode};
-ghost use Rattle.nodes.specs.Formal.{formalDegree, formalWeight};
-ghost use Rattle.nodes.specs.Capped.{EachAtMost, capped};
+ghost use Rattle.weights.specs.Capped.{capped};
+ghost use Rattle.nodes.specs.Formal.{formalDegree, formalWeight, EachAtMost};
 
 pub mod work;
 
@@ -105,12 +103,6 @@ pub fn read_node(i: usize, kind: i64, first: i64, second: i64) -> Found
 
 // ---- The formal degree and the formal weight, from those of the nodes before.
 
-fn larger(m: u64, n: u64) -> u64
-    ensures { λ r. ⌜ r ≡ max m n ⌝ }
-{
-    if m < n { n } else { m }
-}
-
 fn formal_degree(kind: Kind, degrees: &[u64]) -> u64
     requires { ⌜ T (isNode (length (now degrees)) (kindOf kind)) ⌝ }
     requires { ⌜ EachAtMost largestDegree (now degrees) ⌝ }
@@ -119,47 +111,10 @@ fn formal_degree(kind: Kind, degrees: &[u64]) -> u64
     match kind {
         Kind::Integer(_) => 0,
         Kind::Variable(_) => 1,
-        Kind::Sum(a, b) => larger(degrees[a], degrees[b]),
+        Kind::Sum(a, b) => weights::larger(degrees[a], degrees[b]),
         Kind::Product(a, b) => degrees[a] + degrees[b],
         Kind::Power(a, e) => degrees[a] * e,
     }
-}
-
-// A number above every weight that is allowed.
-const TOO_HEAVY: u64 = LARGEST_WEIGHT + 1;
-
-fn cap(w: u64) -> u64
-    ensures { λ r. ⌜ r ≡ capped w ⌝ }
-{
-    if w > LARGEST_WEIGHT {
-        return TOO_HEAVY;
-    }
-    w
-}
-
-// A product that would be above 2^62 is not formed: it is told by 2^62 + 1.
-fn weight_product(v: u64, w: u64) -> u64
-    ensures { λ r. ⌜ r ≡ capped (v * w) ⌝ }
-{
-    if v == 0 {
-        return 0;
-    }
-    if w > LARGEST_WEIGHT / v {
-        return TOO_HEAVY;
-    }
-    v * w
-}
-
-fn weight_power(w: u64, e: u64) -> u64
-    ensures { λ r. ⌜ r ≡ capped (w ^ e) ⌝ }
-{
-    let mut power = 1;
-    let mut k = 0;
-    while k < e {
-        power = weight_product(power, w);
-        k += 1;
-    }
-    power
 }
 
 fn formal_weight(kind: Kind, weights: &[u64]) -> u64
@@ -168,11 +123,11 @@ fn formal_weight(kind: Kind, weights: &[u64]) -> u64
     ensures { λ r. ⌜ r ≡ capped (formalWeight (now (weights .entry)) (kindOf kind)) ⌝ }
 {
     match kind {
-        Kind::Integer(n) => cap(numbers::absolute(n)),
+        Kind::Integer(n) => weights::cap(numbers::absolute(n)),
         Kind::Variable(_) => 1,
-        Kind::Sum(a, b) => cap(weights[a] + weights[b]),
-        Kind::Product(a, b) => weight_product(weights[a], weights[b]),
-        Kind::Power(a, e) => weight_power(weights[a], e),
+        Kind::Sum(a, b) => weights::cap(weights[a] + weights[b]),
+        Kind::Product(a, b) => weights::product(weights[a], weights[b]),
+        Kind::Power(a, e) => weights::power(weights[a], e),
     }
 }
 

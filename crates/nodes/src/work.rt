@@ -14,7 +14,7 @@ ghost use Rattle.sums.specs.Held.{Held};
 ghost use Rattle.sums.specs.Formed.{formedOf};
 ghost use Rattle.nodes.specs.Node.{kindOf, Kind.power};
 ghost use Rattle.nodes.specs.Formal.{formalDegree, formalWeight};
-ghost use Rattle.nodes.specs.Part.{part};
+ghost use Rattle.sums.specs.Part.{part};
 ghost use Rattle.nodes.specs.Work.{sumsAt, nodeFormed, Ready, FormedAt, twoOf, pairOf};
 
 // The n terms of an earlier node, copied to arrays: two parts of one area cannot be lent at once.

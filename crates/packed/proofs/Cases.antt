@@ -18,7 +18,7 @@ use Rattle.numbers.specs.Code.{code, decode}
 use Rattle.packed.specs.Packed.{exponentBytes, termBytes, bytesOfTerms, packed}
 use Rattle.packed.specs.Judge.{weighs, follows}
 use Rattle.packed.specs.ReadSum.{readCoefficient, readExponents, readTerm, readTerms, readSum, readWhole}
-use Rattle.packed.specs.Whole.{withSum}
+use Rattle.packed.specs.Result.{heldInto}
 use Rattle.packed.specs.Unpack.{unpack}
 use Rattle.packed.specs.Pack.{isGood, goodTerms, pack}
 
@@ -115,7 +115,7 @@ table =
     ∷ []
 
 pub cases-hold : Each Says table
-unfolding table none largest largestBytes andThen provided mapped groupsOf numberBytes readByte readGroups readNumber code decode exponentBytes termBytes bytesOfTerms packed weighs follows degree thenBy byPowers order weight readCoefficient readExponents readTerm readTerms readSum readWhole withSum unpack isGood goodTerms pack wordOf fieldsOf termsBy word exponents terms isValid
+unfolding table none largest largestBytes andThen provided mapped groupsOf numberBytes readByte readGroups readNumber code decode exponentBytes termBytes bytesOfTerms packed weighs follows degree thenBy byPowers order weight readCoefficient readExponents readTerm readTerms readSum readWhole heldInto unpack isGood goodTerms pack wordOf fieldsOf termsBy word exponents terms isValid
 cases-hold =
     (refl, refl) also (refl, refl) also (refl, refl) also (refl, refl) also (refl, refl)
     also refl also refl also refl also refl also refl also refl also refl also refl also refl

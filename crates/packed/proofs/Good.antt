@@ -2,10 +2,10 @@
 use mathlib.Core.Path.{_≡_, refl}
 use mathlib.Core.Bool.{Bool, true, false, not, cond, _&&_}
 use mathlib.Core.List.{List, [], _∷_}
-use Prim.Native.Nat.{ℕ, zero, suc, _+_, _≤_}
+use Prim.Native.Nat.{ℕ, suc, _+_, _≤_}
 use native.Mathlib.Omega.{arith}
 use lib.Dec.{T, leb, leb→le, le→leb}
-use lib.IntN.{ℤ, pos, negsuc, natAbs}
+use lib.IntN.{ℤ, natAbs}
 use lib.ListN.{length}
 use Rattle.algebra.specs.Limits.{variables, largestDegree, mostTerms, largestWeight}
 use Rattle.algebra.specs.Pattern.{degree}
@@ -31,17 +31,6 @@ pub data Good (n : ℕ) : Sum → Sum → Type 0 where
   more : {before : Sum} {t : Term} {s : Sum} → Fit n before t → Good n (t ∷ before) s → Good n before (t ∷ s)
 
 -- ---- What `weighs` and `follows` say.
-
--- a number is 0 by its size
-pub no-size : (c : ℤ) → natAbs c ≡ 0 → T (not (isZero c)) → ⊥
-no-size (pos zero) e h = h
-no-size (pos (suc n)) e h = omega arith
-no-size (negsuc n) e h = omega arith
-
-pub some-size : (c : ℤ) → (natAbs c ≡ 0 → ⊥) → T (not (isZero c))
-some-size (pos zero) h = h refl
-some-size (pos (suc n)) h = tt
-some-size (negsuc n) h = tt
 
 module _ (before : ℕ) (c : ℤ) where
   pub weighs-some : T (weighs before c) → T (not (isZero c))

@@ -17,7 +17,8 @@ use Rattle.algebra.proofs.Patterns.Laws.{filled-all}
 use Rattle.algebra.proofs.Patterns.Word.{exponents-length, valid-test}
 use Rattle.packed.specs.Judge.{follows}
 use Rattle.packed.specs.Pack.{isGood, goodTerms}
-use Rattle.packed.proofs.Good.{Fit, no-size, some-size, weighs-some, weighs-light, weighs-is, fit-good, good-fit}
+use Rattle.algebra.proofs.Numbers.Absolute.{no-size, some-size}
+use Rattle.packed.proofs.Good.{Fit, weighs-some, weighs-light, weighs-is, fit-good, good-fit}
 use Rattle.packed.proofs.Last.{Last, last-none, last-some}
 use Rattle.packed.proofs.Front.{first-next}
 

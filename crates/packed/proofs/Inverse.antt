@@ -17,6 +17,7 @@ use Rattle.algebra.proofs.Patterns.Held.{held-coefficients, held-words}
 use Rattle.algebra.proofs.Sums.Held.{word-for, terms-again}
 use Rattle.algebra.proofs.Sums.Every.{Every, Long, UpTo, degree-every}
 use Rattle.algebra.proofs.Sums.Ordered.{parts}
+use Rattle.answers.specs.Refusals.{SUM}
 use Rattle.answers.specs.Answers.{Told.done, Told.refused, Outcome, outcome, check}
 use Rattle.answers.specs.Areas.{written}
 use Rattle.answers.proofs.Writes.{written-front}
@@ -26,7 +27,8 @@ use Rattle.algebra.specs.Accepted.{Accepted}
 use Rattle.packed.specs.ReadSum.{readWhole}
 use Rattle.packed.specs.Pack.{goodTerms, pack}
 use Rattle.algebra.specs.Held.{wordFor, wordsOf, coefficientsOf, firstTerms}
-use Rattle.packed.specs.Whole.{withSum}
+use Rattle.packed.specs.Whole.{judged}
+use Rattle.packed.specs.Result.{heldInto}
 use Rattle.packed.specs.Unpack.{unpack}
 use Rattle.packed.proofs.Good.{AllValid, accepted-good, good-terms}
 use Rattle.packed.proofs.Trip.{whole-read, whole-written}
@@ -36,7 +38,7 @@ use Rattle.packed.proofs.Packing.{Passed, all-good, accepted}
 
 -- ---- Outcomes.
 
-refused-done : {r place k : ℕ} → refused r place ≡ done k → ⊥
+pub refused-done : {r place k : ℕ} → refused r place ≡ done k → ⊥
 refused-done e = let z : _≡_ {A = ℕ} 0 1 = cc in absurd (omega arith)
 
 module _ {Areas : Type 0} {k : ℕ} {y : Areas} where
@@ -52,7 +54,7 @@ module _ {Areas : Type 0} {k : ℕ} {y : Areas} where
 
 pub unpack-accepts : (s : Sum) (ws : List ℕ) (cs : List ℤ) → Accepted variables s → mostTerms ≤ length ws → mostTerms ≤ length cs
     → unpack (packed s) ws cs ≡ outcome (done (length s)) (written (wordsOf s) ws, written (coefficientsOf s) cs)
-unfolding withSum
+unfolding heldInto
 unpack-accepts s ws cs a words-room coefficients-room = has-room (packed s) ws cs words-room coefficients-room ∙ rw (whole-read variables s a)
 
 -- the bytes are those of a sum, and the two areas hold its terms
@@ -68,7 +70,7 @@ pub record Unpacks (bytes ws : List ℕ) (cs : List ℤ) (count : ℕ) (ws' : Li
 
 pub unpack-accepted : {bytes ws : List ℕ} {cs : List ℤ} {count : ℕ} {ws' : List ℕ} {cs' : List ℤ} → ((i : ℕ) → getD bytes i 0 < 256)
     → unpack bytes ws cs ≡ outcome (done count) (ws', cs') → Unpacks bytes ws cs count ws' cs'
-unfolding unpack withSum
+unfolding unpack heldInto
 unpack-accepted {bytes} {ws} {cs} {count} {ws'} {cs'} byte e =
     let words-fit = leb mostTerms (length ws) in
     let coefficients-fit = leb mostTerms (length cs) in
@@ -78,7 +80,7 @@ unpack-accepted {bytes} {ws} {cs} {count} {ws'} {cs'} byte e =
     go words-room coefficients-room (readWhole variables bytes) refl (room .1)
   where
     go : mostTerms ≤ length ws → mostTerms ≤ length cs → (r : Item Sum) → readWhole variables bytes ≡ r
-        → withSum {Areas = List ℕ × List ℤ} r (ws, cs) (λ s. outcome (done (length s)) (written (wordsOf s) ws, written (coefficientsOf s) cs))
+        → heldInto (judged SUM r) ws cs
         ≡ outcome (done count) (ws', cs')
         → Unpacks bytes ws cs count ws' cs'
     go words-room coefficients-room (got s end) read e =

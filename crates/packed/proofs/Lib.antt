@@ -14,5 +14,7 @@ pub mod Writing
 pub mod WriteSum
 pub mod Packing
 pub mod Inverse
+pub mod Working
+pub mod Results
 pub mod Unique
 pub mod Cases

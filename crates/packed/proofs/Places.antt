@@ -16,11 +16,10 @@ use Rattle.numbers.specs.Number.{mostGroups, numberBytes, readNumber}
 use Rattle.numbers.specs.Code.{decode}
 use Rattle.numbers.proofs.Items.{place-then, place-mapped, place-provided, CutAt, cut-then, cut-mapped, cut-provided, cut-none}
 use Rattle.numbers.proofs.Numbers.{number-written, number-cut, number-bad, number-length, number-one, number-two}
-use Rattle.answers.specs.Refusals.{ROOM}
+use Rattle.answers.specs.Refusals.{ROOM, SUM}
 use Rattle.answers.specs.Answers.{Told.done, Told.refused, outcome, check}
-use Rattle.answers.specs.Areas.{written}
-use Rattle.algebra.specs.Held.{wordsOf, coefficientsOf}
-use Rattle.packed.specs.Whole.{withSum}
+use Rattle.packed.specs.Whole.{judged}
+use Rattle.packed.specs.Result.{heldInto}
 use Rattle.packed.specs.Unpack.{unpack}
 use Rattle.packed.specs.Packed.{mostTermBytes, mostBytes}
 use Rattle.packed.specs.ReadSum.{readCoefficient, readExponents, readTerm, readTerms, readSum, readWhole}
@@ -142,19 +141,19 @@ done-refused {n = n} {q = q} {k = k} e = let told : done n ≡ refused q k = ap 
 -- unpack's is below 65,536 too
 pub unpack-place : (bytes ws : List ℕ) (cs : List ℤ) {r place : ℕ} {areas : List ℕ × List ℤ} → ((i : ℕ) → getD bytes i 0 < 256)
     → unpack bytes ws cs ≡ outcome (refused r place) areas → place < 65536
-unfolding unpack withSum
+unfolding unpack heldInto
 unpack-place bytes ws cs {r} {place} {areas} byte e =
     room (leb mostTerms (length ws) && leb mostTerms (length cs)) e
   where
     read : (item : Item Sum) → placeOf item < 65536
-        → withSum {Areas = List ℕ × List ℤ} item (ws, cs) (λ s. outcome (done (length s)) (written (wordsOf s) ws, written (coefficientsOf s) cs)) ≡ outcome (refused r place) areas
+        → heldInto (judged SUM item) ws cs ≡ outcome (refused r place) areas
         → place < 65536
     read (got s end) h e = absurd (done-refused e)
     read (cut p) h e = omega (arith, refused-place e)
     read (bad p) h e = omega (arith, refused-place e)
 
     room : (b : Bool)
-        → check {Areas = List ℕ × List ℤ} b ROOM 0 (ws, cs) (withSum (readWhole variables bytes) (ws, cs) (λ s. outcome (done (length s)) (written (wordsOf s) ws, written (coefficientsOf s) cs)))
+        → check {Areas = List ℕ × List ℤ} b ROOM 0 (ws, cs) (heldInto (judged SUM (readWhole variables bytes)) ws cs)
         ≡ outcome (refused r place) areas
         → place < 65536
     room true e = read (readWhole variables bytes) (place-small bytes byte) e

@@ -22,7 +22,8 @@ use Rattle.numbers.proofs.Codes.{code-decode, decode-fits}
 use Rattle.packed.specs.Judge.{weighs}
 use Rattle.packed.specs.ReadSum.{readCoefficient, readExponents}
 use Rattle.algebra.specs.Held.{wordFor}
-use Rattle.packed.proofs.Good.{no-size, some-size, weighs-some, weighs-light, weighs-is}
+use Rattle.algebra.proofs.Numbers.Absolute.{no-size, some-size}
+use Rattle.packed.proofs.Good.{weighs-some, weighs-light, weighs-is}
 
 -- ---- A coefficient.
 

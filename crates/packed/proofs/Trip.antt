@@ -23,7 +23,7 @@ use Rattle.packed.specs.ReadSum.{readCoefficient, readExponents, readTer
 use Rattle.packed.proofs.Good.{Fit, Good, Good.none, Good.more, weighs-light, accepted-good, good-accepted}
 
 -- a list that goes on with a and then b goes on, after a, with b
-after : {A : Type 0} (s : List A) (at : ℕ) (a b : List A) → drop at s ≡ a ++ b → drop (at + length a) s ≡ b
+pub after : {A : Type 0} (s : List A) (at : ℕ) (a b : List A) → drop at s ≡ a ++ b → drop (at + length a) s ≡ b
 after s at a b e = sym (drop-drop (length a) at s) ∙ ap (drop (length a)) e ∙ drop-append-seam a b
 
 -- ---- What was packed is read again.
@@ -98,10 +98,10 @@ pub record Stands (s : List ℕ) (at : ℕ) (bytes : List ℕ) (end : ℕ) : Typ
   pub bytes-are : drop at s ≡ bytes ++ drop end s
   pub ends : end ≡ at + length bytes
 
-stands-none : (s : List ℕ) (at : ℕ) → Stands s at [] at
+pub stands-none : (s : List ℕ) (at : ℕ) → Stands s at [] at
 stands-none s at = record { bytes-are = refl; ends = omega arith }
 
-stands-both : {s : List ℕ} {at : ℕ} {a : List ℕ} {next : ℕ} {b : List ℕ} {end : ℕ} → Stands s at a next → Stands s next b end → Stands s at (a ++ b) end
+pub stands-both : {s : List ℕ} {at : ℕ} {a : List ℕ} {next : ℕ} {b : List ℕ} {end : ℕ} → Stands s at a next → Stands s next b end → Stands s at (a ++ b) end
 stands-both {s} {at} {a} {next} {b} {end} h k = record {
   bytes-are = h .bytes-are ∙ ap (λ l. a ++ l) (k .bytes-are) ∙ sym (append-assoc a b (drop end s));
   ends = omega (arith, h .ends, k .ends, length-append a b);
@@ -120,7 +120,7 @@ exponents-fit s (suc n) d p at end low e =
     subst (λ p. (length p ≡ suc n) × (d + degree p ≤ largestDegree)) (rest .shown) (ap suc (i .0), omega (arith, i .1))
 
 module _ (s : List ℕ) (byte : (i : ℕ) → getD s i 0 < 256) where
-  number-stands : {at v next : ℕ} → readNumber s at ≡ got v next → Stands s at (numberBytes v) next
+  pub number-stands : {at v next : ℕ} → readNumber s at ≡ got v next → Stands s at (numberBytes v) next
   number-stands {at} {v} {next} e = let w = number-written s at v next byte e in record { bytes-are = w .bytes; ends = w .ends }
 
   exponents-written : (n d : ℕ) (p : Pattern) (at end : ℕ) → readExponents n d s at ≡ got p end → Stands s at (exponentBytes p) end

@@ -10,7 +10,7 @@ use lib.ListN.{length, take, length-map}
 use Rattle.algebra.specs.Limits.{variables, mostTerms}
 use Rattle.algebra.specs.Sum.{Sum}
 use Rattle.answers.specs.Refusals.{ROOM, SUM}
-use Rattle.answers.specs.Answers.{Told.done, Told.refused, Outcome, outcome}
+use Rattle.answers.specs.Answers.{Told.done, Told.refused, outcome}
 use Rattle.answers.specs.Areas.{written}
 use Rattle.answers.proofs.Writes.{written-front}
 use Rattle.numbers.specs.Item.{Item, Item.got}
@@ -18,7 +18,8 @@ use Rattle.numbers.proofs.Items.{From, Alike, Alike.both-cut, Alike.both-bad, a
 use Rattle.packed.specs.ReadSum.{readSum, readWhole}
 use Rattle.algebra.specs.Held.{wordsOf, coefficientsOf}
 use Rattle.packed.specs.Held.{Holds, readInto}
-use Rattle.packed.specs.Whole.{fault, withSum}
+use Rattle.packed.specs.Whole.{judged, fault}
+use Rattle.packed.specs.Result.{heldInto}
 use Rattle.packed.specs.Unpack.{unpack}
 use Rattle.packed.proofs.TakeSum.{sum-few}
 
@@ -68,16 +69,12 @@ into-areas t ws cs words-are coefficients-are = rw (t .read, t .many, words-are,
 
 -- ---- `unpack`.
 
-both-refuse : {Areas : Type 0} {x : Item ℕ} (all : Item Sum) (areas : Areas) (f : Sum → Outcome Areas) → Alike x all → outcome (fault SUM x) areas ≡ withSum all areas f
-unfolding withSum
-both-refuse all areas f both-cut = refl
-both-refuse all areas f both-bad = refl
+both-refuse : {x : Item ℕ} (all : Item Sum) (ws : List ℕ) (cs : List ℤ) → Alike x all → outcome (fault SUM x) (ws, cs) ≡ heldInto (judged SUM all) ws cs
+unfolding heldInto
+both-refuse all ws cs both-cut = refl
+both-refuse all ws cs both-bad = refl
 
 module _ (bytes ws : List ℕ) (cs : List ℤ) where
-  -- what a sum that was read makes of the areas
-  abbrev with-terms : Sum → Outcome (List ℕ × List ℤ)
-  with-terms s = outcome (done (length s)) (written (wordsOf s) ws, written (coefficientsOf s) cs)
-
   pub few-words : length ws < mostTerms → outcome (refused ROOM 0) (ws, cs) ≡ unpack bytes ws cs
   unfolding unpack
   few-words h = rw (lt-leb mostTerms (length ws) h)
@@ -87,26 +84,26 @@ module _ (bytes ws : List ℕ) (cs : List ℤ) where
   few-coefficients h k = rw (le-leb mostTerms (length ws) h, lt-leb mostTerms (length cs) k)
 
   module _ (words-room : mostTerms ≤ length ws) (coefficients-room : mostTerms ≤ length cs) where
-    pub has-room : unpack bytes ws cs ≡ withSum (readWhole variables bytes) (ws, cs) (λ s. outcome (done (length s)) (written (wordsOf s) ws, written (coefficientsOf s) cs))
+    pub has-room : unpack bytes ws cs ≡ heldInto (judged SUM (readWhole variables bytes)) ws cs
     unfolding unpack
     has-room = rw (le-leb mostTerms (length ws) words-room, le-leb mostTerms (length cs) coefficients-room)
 
     pub unpack-stops : {x : Item ℕ} → Alike x (readSum variables bytes 0) → outcome (fault SUM x) (ws, cs) ≡ unpack bytes ws cs
     unfolding readWhole
-    unpack-stops a = both-refuse (readWhole variables bytes) (ws, cs) with-terms (alike-then _ a) ∙ sym has-room
+    unpack-stops a = both-refuse (readWhole variables bytes) ws cs (alike-then _ a) ∙ sym has-room
 
     module _ {words : List ℕ} {coefficients : List ℤ} {count end : ℕ} (t : Taken bytes 0 words coefficients count end) where
       pub left-over : end < length bytes → outcome (refused SUM end) (ws, cs) ≡ unpack bytes ws cs
-      unfolding readWhole withSum
+      unfolding readWhole heldInto
       left-over h =
           let over = provided-no end _ (leb (length bytes) end) (λ k. omega (arith, leb→le (length bytes) end k)) in
-          sym (has-room ∙ ap (λ r. withSum r (ws, cs) with-terms) (then-got _ (t .read) ∙ over))
+          sym (has-room ∙ ap (λ r. heldInto (judged SUM r) ws cs) (then-got _ (t .read) ∙ over))
 
       pub into-areas-whole : length bytes ≤ end → {ws' : List ℕ} {cs' : List ℤ}
           → ws' ≡ written (take count words) ws → cs' ≡ written (take count coefficients) cs
           → outcome (done count) (ws', cs') ≡ unpack bytes ws cs
-      unfolding readWhole withSum
+      unfolding readWhole heldInto
       into-areas-whole h words-are coefficients-are =
           let all = provided-yes end _ (leb (length bytes) end) (le→leb (length bytes) end h) in
           rw (words-are, coefficients-are, t .words-held, t .coefficients-held, ← t .many)
-          (sym (has-room ∙ ap (λ r. withSum r (ws, cs) with-terms) (then-got _ (t .read) ∙ all)))
+          (sym (has-room ∙ ap (λ r. heldInto (judged SUM r) ws cs) (then-got _ (t .read) ∙ all)))

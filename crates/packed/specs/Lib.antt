@@ -3,5 +3,6 @@ pub mod Judge
 pub mod ReadSum
 pub mod Held
 pub mod Whole
+pub mod Result
 pub mod Unpack
 pub mod Pack

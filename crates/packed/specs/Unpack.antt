@@ -6,14 +6,13 @@ use lib.Dec.{leb}
 use lib.IntN.{ℤ}
 use lib.ListN.{length}
 use Rattle.algebra.specs.Limits.{variables, mostTerms}
-use Rattle.answers.specs.Refusals.{ROOM}
-use Rattle.answers.specs.Answers.{Told.done, Outcome, outcome, check}
-use Rattle.answers.specs.Areas.{written}
+use Rattle.answers.specs.Refusals.{ROOM, SUM}
+use Rattle.answers.specs.Answers.{Outcome, check}
 use Rattle.packed.specs.ReadSum.{readWhole}
-use Rattle.algebra.specs.Held.{wordsOf, coefficientsOf}
-use Rattle.packed.specs.Whole.{withSum}
+use Rattle.packed.specs.Whole.{judged}
+use Rattle.packed.specs.Result.{heldInto}
 
 unfoldable pub unpack : List ℕ → List ℕ → List ℤ → Outcome (List ℕ × List ℤ)
 unpack bytes ws cs =
     check (leb mostTerms (length ws) && leb mostTerms (length cs)) ROOM 0 (ws, cs)
-    (withSum (readWhole variables bytes) (ws, cs) (λ s. outcome (done (length s)) (written (wordsOf s) ws, written (coefficientsOf s) cs)))
+    (heldInto (judged SUM (readWhole variables bytes)) ws cs)

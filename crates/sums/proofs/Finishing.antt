@@ -20,7 +20,7 @@ use Rattle.sums.proofs.Storing.{Stored, stored-none, stored-next, store
 
 -- ---- Zeros dropped, term by term.
 
-keep-append : (b : Bool) (t : Term) (s r : Sum) → keep b t (s ++ r) ≡ keep b t s ++ r
+pub keep-append : (b : Bool) (t : Term) (s r : Sum) → keep b t (s ++ r) ≡ keep b t s ++ r
 unfolding keep
 keep-append true t s r = refl
 keep-append false t s r = refl

@@ -5,14 +5,15 @@ use Prim.Native.Nat.{ℕ, _≤_}
 use native.Mathlib.Omega.{arith}
 use lib.IntN.{ℤ}
 use lib.ListN.{length, take, length-map}
-use Rattle.algebra.specs.Limits.{mostTerms}
+use Rattle.algebra.specs.Limits.{variables, mostTerms}
 use Rattle.algebra.specs.Sum.{Sum}
+use Rattle.algebra.specs.Accepted.{Accepted}
 use Rattle.algebra.specs.Word.{terms}
 use Rattle.algebra.specs.Held.{wordsOf, coefficientsOf, firstTerms}
 use Rattle.answers.specs.Areas.{written}
 use Rattle.answers.proofs.Writes.{written-front}
-use Rattle.sums.specs.Held.{Held}
-use Rattle.sums.proofs.Holding.{Holdable, spells, holds}
+use Rattle.sums.specs.Held.{Held, HeldSum}
+use Rattle.sums.proofs.Holding.{Holdable, spells, holds, holds-sum}
 
 pub record Front (s : Sum) (ws : List ℕ) (cs : List ℤ) (n : ℕ) : Type 0 where
   pub words-are : take n ws ≡ wordsOf s
@@ -43,3 +44,6 @@ module _ {s : Sum} {ws : List ℕ} {cs : List ℤ} {n : ℕ} (f : Front s ws cs 
 
   pub front-held : Held (take n ws) (take n cs)
   front-held = rw (f .words-are, f .coefficients-are) (holds (f .holdable))
+
+  pub front-sum : Accepted variables s → HeldSum (take n ws) (take n cs)
+  front-sum a = rw (f .words-are, f .coefficients-are) (holds-sum a)

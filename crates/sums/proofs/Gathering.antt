@@ -22,7 +22,7 @@ use Rattle.sums.proofs.Answering.{given}
 use Rattle.sums.proofs.Fronts.{Front, front-written, front-few, front-is}
 
 module _ (l : List Term) where
-  gathered : Every (Long variables) l → Every (UpTo largestDegree) l → spread l ≤ mostTerms → Holdable (gather l)
+  pub gathered : Every (Long variables) l → Every (UpTo largestDegree) l → spread l ≤ mostTerms → Holdable (gather l)
   gathered long low few = record {
     long = gather-every (Long variables) l long;
     strict = gather-order l;

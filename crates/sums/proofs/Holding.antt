@@ -14,15 +14,17 @@ use Rattle.algebra.specs.Pattern.{Pattern, degree}
 use Rattle.algebra.specs.Sum.{Term, term, Sum, inOrder, degreeOf, weight}
 use Rattle.algebra.specs.Word.{word, exponents, terms}
 use Rattle.algebra.specs.Held.{wordFor, wordsOf, coefficientsOf}
+use Rattle.algebra.specs.Accepted.{Accepted}
 use Rattle.algebra.proofs.Patterns.Word.{exponents-length}
 use Rattle.algebra.proofs.Patterns.Held.{held-length, held-at}
 use Rattle.algebra.proofs.Sums.Held.{word-for, terms-long, terms-again}
 use Rattle.algebra.proofs.Sums.Every.{Every, Long, UpTo, degree-every}
-use Rattle.sums.specs.Held.{EachValid, Held}
+use Rattle.algebra.proofs.Sums.Ordered.{parts}
+use Rattle.sums.specs.Held.{EachValid, Held, HeldSum}
 
 -- ---- One place of a list.
 
-map-at : {A B : Type 0} (f : A → B) (l : List A) (k : ℕ) (d : A) (e : B) → k < length l → getD (map f l) k e ≡ f (getD l k d)
+pub map-at : {A B : Type 0} (f : A → B) (l : List A) (k : ℕ) (d : A) (e : B) → k < length l → getD (map f l) k e ≡ f (getD l k d)
 map-at f [] k d e h = absurd (omega arith)
 map-at f (a ∷ l) zero d e h = refl
 map-at f (a ∷ l) (suc k) d e h = map-at f l k d e (omega arith)
@@ -110,7 +112,17 @@ module _ {s : Sum} (h : Holdable s) where
     few = omega (arith, h .few, length-map s (λ (t : Term). wordFor (t .pattern)));
   }
 
--- and what is held is such a sum
+-- an accepted sum is
+pub accepted-holdable : {s : Sum} → Accepted variables s → Holdable s
+accepted-holdable {s} a =
+    let p = parts variables s (a .isOrdered) in
+    record { long = p .long; strict = p .strict; low = a .low; few = a .few }
+
+-- and its words and coefficients hold it
+pub holds-sum : {s : Sum} → Accepted variables s → HeldSum (wordsOf s) (coefficientsOf s)
+holds-sum a = let h = accepted-holdable a in record { held = holds h; accepted = rw (spells h) a }
+
+-- what is held is such a sum
 pub holdable : {ws : List ℕ} {cs : List ℤ} → Held ws cs → Holdable (terms ws cs)
 holdable {ws} {cs} held = record {
   long = terms-long ws cs;

@@ -16,4 +16,5 @@ pub mod Gathering
 pub mod Adding
 pub mod Multiplying
 pub mod Raising
+pub mod Parts
 pub mod Unique

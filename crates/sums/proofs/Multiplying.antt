@@ -37,7 +37,7 @@ use Rattle.sums.proofs.MakeRow.{row-length}
 
 -- ---- Parts of a sum.
 
-every-drop : (P : Pattern → Type 0) (k : ℕ) (s : Sum) → Every P s → Every P (drop k s)
+pub every-drop : (P : Pattern → Type 0) (k : ℕ) (s : Sum) → Every P s → Every P (drop k s)
 every-drop P zero s e = e
 every-drop P (suc k) [] e = tt
 every-drop P (suc k) (t ∷ s) e = every-drop P k s (e .1)
@@ -59,12 +59,12 @@ pairs-spread k s t =
 
 -- ---- A list that goes on with a gathered one.
 
-gather-rest : (l m : List Term) → gather (l ++ gather m) ≡ gather (l ++ m)
+pub gather-rest : (l m : List Term) → gather (l ++ gather m) ≡ gather (l ++ m)
 unfolding gather
 gather-rest [] m = gather-fixed (gather m) (gather-order m)
 gather-rest (t ∷ l) m = ap (insert t) (gather-rest l m)
 
-spread-rest : (l m : List Term) → spread (l ++ gather m) ≡ spread (l ++ m)
+pub spread-rest : (l m : List Term) → spread (l ++ gather m) ≡ spread (l ++ m)
 spread-rest l m = spread-gather (l ++ gather m) ∙ ap length (gather-rest l m) ∙ sym (spread-gather (l ++ m))
 
 -- ---- No rows.
@@ -73,8 +73,19 @@ no-rows : (s t : Sum) (k : ℕ) → length s ≡ k → gather (pairs (drop k s) 
 unfolding pairs gather
 no-rows s t k e = ap (λ (i : ℕ). gather (pairs (drop i s) t)) (sym e) ∙ ap (λ l. gather (pairs l t)) (drop-length s)
 
-holdable-none : Holdable []
+pub holdable-none : Holdable []
 holdable-none = record { long = tt; strict = unfold inOrder in tt; low = unfold degreeOf in omega arith; few = omega arith }
+
+-- a row of a sum that can be held can be held, if no degree becomes too high
+pub row-held : (u : Term) {t : Sum} → length (u .pattern) ≡ variables → Holdable t → degree (u .pattern) + degreeOf t ≤ largestDegree → Holdable (row u t)
+row-held u {t} long second high = record {
+  long = row-every (Long variables) (Long variables) (Long variables) (times-length variables) u t long (second .long);
+  strict = row-order variables u t long (second .long) (second .strict);
+  low = every-degree largestDegree (row u t)
+      (row-every (UpTo (degree (u .pattern))) (UpTo (degreeOf t)) (UpTo largestDegree)
+      (λ p q a b. omega (arith, times-degree (degree (u .pattern)) (degreeOf t) p q a b, high)) u t (le-refl _) (degree-every _ t (le-refl _)));
+  few = omega (arith, row-length u t, second .few);
+}
 
 -- ---- Two factors, and the rows of the first from the k-th on.
 
@@ -120,14 +131,7 @@ module _ {s t : Sum} (f : Factors s t) where
     row-size = omega (arith, row-light, row-weight u t)
 
     row-holdable : Holdable (row u t)
-    row-holdable = record {
-      long = row-every (Long variables) (Long variables) (Long variables) (times-length variables) u t u-long (f .second .long);
-      strict = row-order variables u t u-long (f .second .long) (f .second .strict);
-      low = every-degree largestDegree (row u t)
-          (row-every (UpTo (degree (u .pattern))) (UpTo (degreeOf t)) (UpTo largestDegree)
-          (λ p q a b. omega (arith, times-degree (degree (u .pattern)) (degreeOf t) p q a b, row-low)) u t (le-refl _) (degree-every _ t (le-refl _)));
-      few = omega (arith, row-length u t, f .second .few);
-    }
+    row-holdable = row-held u u-long (f .second) row-low
 
     -- the row goes into the running sum
     row-joins : withRow (row u t) (running s t (suc k)) ≡ within (spread (pairs (drop k s) t)) (running s t k)

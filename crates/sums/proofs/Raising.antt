@@ -34,7 +34,7 @@ module _ (n : ℕ) (s : Sum) where
   power-next zero h = absurd (omega arith)
   power-next (suc k) h = rw (add-one (suc k)) (unfold power in refl)
 
-  spread-next : (k : ℕ) → 0 < k → powerSpread n s (k + 1) ≡ max (powerSpread n s k) (productSpread (power n s k) s)
+  pub spread-next : (k : ℕ) → 0 < k → powerSpread n s (k + 1) ≡ max (powerSpread n s k) (productSpread (power n s k) s)
   spread-next zero h = absurd (omega arith)
   spread-next (suc k) h = rw (add-one (suc k)) (unfold powerSpread in refl)
 
@@ -45,7 +45,7 @@ module _ (n : ℕ) (s : Sum) where
       let next : k + suc d ≡ k + d + 1 = omega arith in
       rw (next, spread-next (k + d) (omega arith)) (le-trans (spread-more k h d) (le-max-left (powerSpread n s (k + d)) (productSpread (power n s (k + d)) s)))
 
-  spread-rises : (k e : ℕ) → 0 < k → k ≤ e → powerSpread n s k ≤ powerSpread n s e
+  pub spread-rises : (k e : ℕ) → 0 < k → k ≤ e → powerSpread n s k ≤ powerSpread n s e
   spread-rises k e h more = let all : k + (e - k) ≡ e = omega arith in rw all at (spread-more k h (e - k))
 
 -- ---- Exponent 0.
@@ -84,7 +84,7 @@ start next-patterns next-coefficients base low light some copied next-words-room
 }
 
 -- one power more weighs no more than the last one
-heavier : (w m k e : ℕ) → m ≤ w ^ k → k < e → w ^ e ≤ largestWeight → m * w ≤ largestWeight
+pub heavier : (w m k e : ℕ) → m ≤ w ^ k → k < e → w ^ e ≤ largestWeight → m * w ≤ largestWeight
 heavier zero m k e h more light = omega arith
 heavier (suc w) m k e h more light =
     let next : suc w ^ k * suc w ≤ suc w ^ e = rw (← pow-suc (suc w) k) (pow-le-pow-right (omega arith) more) in

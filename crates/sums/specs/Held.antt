@@ -5,8 +5,9 @@ use Prim.Native.Nat.{ℕ, _≤_, _<_}
 use lib.Dec.{T}
 use lib.IntN.{ℤ}
 use lib.ListN.{length, getD}
-use Rattle.algebra.specs.Limits.{largestDegree, mostTerms}
+use Rattle.algebra.specs.Limits.{variables, largestDegree, mostTerms}
 use Rattle.algebra.specs.Sum.{inOrder, degreeOf}
+use Rattle.algebra.specs.Accepted.{Accepted}
 use Rattle.algebra.specs.Held.{wordsOf, coefficientsOf}
 use Rattle.algebra.specs.Word.{terms, Valid}
 
@@ -22,3 +23,8 @@ pub record Held (ws : List ℕ) (cs : List ℤ) : Type 0 where
   pub strict : T (inOrder (terms ws cs))
   pub low : degreeOf (terms ws cs) ≤ largestDegree
   pub few : length ws ≤ mostTerms
+
+-- two slices hold an accepted sum
+pub record HeldSum (ws : List ℕ) (cs : List ℤ) : Type 0 where
+  pub held : Held ws cs
+  pub accepted : Accepted variables (terms ws cs)

@@ -1,3 +1,4 @@
 pub mod Held
 pub mod Formed
 pub mod Asked
+pub mod Part

@@ -5,7 +5,7 @@ use Prim.Native.Nat.{ℕ, zero, suc, _+_, _≤_, _<_}
 use native.Mathlib.Omega.{arith}
 use lib.Dec.{eqb}
 use borrow.Author.Tests.{eqb-true}
-use Rattle.nodes.specs.Judge.{Judged, Judged.good, Judged.fails, holding, andThen}
+use Rattle.answers.specs.Judge.{Judged, Judged.good, Judged.fails, holding, andThen}
 use Rattle.text.specs.Limits.{largestExponent}
 use Rattle.text.specs.Signs.{powerSign, closeBracket, isDigit}
 use Rattle.text.specs.Reader.{Span, byteAt, readExponent, readMore}

@@ -13,7 +13,7 @@ use Rattle.algebra.specs.Limits.{mostNodes}
 use Rattle.answers.specs.Refusals.{ROOM, TEXT, NODES}
 use Rattle.answers.specs.Answers.{Told.done, Told.refused, outcome}
 use Rattle.answers.specs.Areas.{written}
-use Rattle.nodes.specs.Judge.{Judged.good, Judged.fails, holding, andThen}
+use Rattle.answers.specs.Judge.{Judged.good, Judged.fails, holding, andThen}
 use Rattle.nodes.specs.Node.{tableOf}
 use Rattle.formula.proofs.Passing.{table-length}
 use Rattle.text.specs.Limits.{longestText, tablePlaces}

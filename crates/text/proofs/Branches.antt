@@ -8,7 +8,7 @@ use lib.Dec.{eqb}
 use lib.ListN.{length}
 use borrow.Author.Tests.{eq-eqb, ne-eqb, le-leb, lt-leb}
 use Rattle.answers.specs.Refusals.{TEXT}
-use Rattle.nodes.specs.Judge.{Judged, Judged.good, Judged.fails, holding, andThen}
+use Rattle.answers.specs.Judge.{Judged, Judged.good, Judged.fails, holding, andThen}
 use Rattle.text.specs.Limits.{deepest, largestNumber, largestExponent}
 use Rattle.text.specs.Signs.{minusSign, powerSign, openBracket, closeBracket, isDigit}
 use Rattle.text.specs.Letters.{Letter, letterOf}
@@ -17,7 +17,7 @@ use Rattle.text.specs.Reader.{Span, span, byteAt, isTimes, isSign, signe
 use Rattle.text.specs.Reader.{Reader, readLetter, readAtom, readExponent, readFactor, readMore, readTerm, readSum, inBrackets, readWhole}
 use Rattle.text.proofs.Byte.{digit-from}
 use Rattle.text.proofs.Digits.{Number}
-use Rattle.text.proofs.Checks.{then-good, then-fails}
+use Rattle.answers.proofs.Judging.{then-good, then-fails}
 
 -- ---- Atoms.
 

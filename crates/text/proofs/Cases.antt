@@ -6,7 +6,7 @@ use Prim.Native.String.{String}
 use lib.IntN.{pos, negsuc}
 use Rattle.answers.proofs.Tables.{Each, _also_}
 use Rattle.answers.specs.Refusals.{TEXT, NODES}
-use Rattle.nodes.specs.Judge.{Judged, Judged.good, Judged.fails, holding, andThen}
+use Rattle.answers.specs.Judge.{Judged, Judged.good, Judged.fails, holding, andThen}
 use Rattle.nodes.specs.Node.{Kind, Kind.integer, Kind.variable, Kind.sum, Kind.product, Kind.power}
 use Rattle.answers.specs.Quoted.{quoted}
 use Rattle.text.specs.Signs.{isDigit}

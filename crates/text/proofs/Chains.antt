@@ -6,12 +6,12 @@ use Prim.Native.Nat.{ℕ, _+_, _-_, _≤_}
 use native.Mathlib.Nat.{le-trans}
 use native.Mathlib.Omega.{arith}
 use lib.ListN.{length}
-use Rattle.nodes.specs.Judge.{Judged, Judged.good, andThen}
+use Rattle.answers.specs.Judge.{Judged, Judged.good, andThen}
 use Rattle.text.specs.Tree.{Tree}
 use Rattle.text.specs.Reader.{Span, span, byteAt}
 use Rattle.text.proofs.Words.{Stands, stands-front, stands-back, stands-first, Agree}
 use Rattle.text.proofs.Parts.{End}
-use Rattle.text.proofs.Checks.{then-good}
+use Rattle.answers.proofs.Judging.{then-good}
 use Rattle.text.proofs.Ahead.{then-ahead, more-ahead}
 use Rattle.text.proofs.Operands.{Operands, more, joined, Chain, chain-starts, chain-stops, goes-on, chain-again}
 

@@ -10,7 +10,7 @@ use lib.Dec.{T, ltb, lt→ltb}
 use lib.ListN.{length, length-append}
 use Rattle.algebra.specs.Limits.{variables, mostNodes}
 use Rattle.answers.specs.Refusals.{DEGREE, WEIGHT, SPREAD}
-use Rattle.nodes.specs.Judge.{Judged, Judged.good, Judged.fails, holding, andThen}
+use Rattle.answers.specs.Judge.{Judged, Judged.good, Judged.fails, holding, andThen}
 use Rattle.nodes.specs.Node.{Kind, tableOf, isNode}
 use Rattle.formula.specs.Table.{Entry, judgeNode, judgeNodes, isShape, judgeTable}
 use Rattle.formula.proofs.Passing.{table-length, node-judged, shape-judge}

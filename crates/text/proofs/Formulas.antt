@@ -9,7 +9,7 @@ use lib.ListN.{length, take, drop, length-append, List·getD-eq-default, List·g
 use lib.Seq.{drop-length, take-all, take-at, take-take, getD-take, length-take-le}
 use borrow.Author.Tests.{leb-true}
 use Rattle.answers.specs.Refusals.{TEXT}
-use Rattle.nodes.specs.Judge.{Judged, Judged.good, Judged.fails, holding, andThen}
+use Rattle.answers.specs.Judge.{Judged, Judged.good, Judged.fails, holding, andThen}
 use Rattle.text.specs.Limits.{deepest}
 use Rattle.text.specs.Tree.{Tree}
 use Rattle.text.specs.Grammar.{Level.sum, Is, Formula, Longest}
@@ -19,7 +19,7 @@ use Rattle.text.proofs.Byte.{decide}
 use Rattle.text.proofs.Words.{Stands, Agree}
 use Rattle.text.proofs.Parts.{Begun, reading, End, Good}
 use Rattle.text.proofs.Sound.{reading-good}
-use Rattle.text.proofs.Checks.{good-fails}
+use Rattle.answers.proofs.Judging.{good-fails}
 use Rattle.text.proofs.Branches.{all-read}
 use Rattle.text.proofs.Only.{reads}
 

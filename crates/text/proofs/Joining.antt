@@ -14,7 +14,8 @@ use Rattle.answers.specs.Answers.{Told.refused, outcome}
 use Rattle.nodes.specs.Node.{tableOf}
 use Rattle.formula.specs.Table.{judgeTable}
 use Rattle.formula.specs.Meaning.{formulaValue}
-use Rattle.formula.specs.Simplify.{Areas, simplify}
+use Rattle.packed.specs.Result.{Areas}
+use Rattle.formula.specs.Simplify.{simplify}
 use Rattle.formula.proofs.Tables.{table-one}
 use Rattle.formula.proofs.Passing.{table-length, shape-judge, no-shape-judge, fault-judge}
 use Rattle.formula.proofs.Simplifying.{Simplified, Refuses, Refuses.no-room, Refuses.no-shape, Refuses.at-node, simplify-refuses}

@@ -1,6 +1,5 @@
 pub mod Byte
 pub mod Digits
-pub mod Checks
 pub mod Branches
 pub mod Operands
 pub mod Trees

@@ -5,7 +5,7 @@ use mathlib.Core.List.{List}
 use Prim.Native.Nat.{ℕ, _+_, _-_, _≤_}
 use native.Mathlib.Omega.{arith}
 use lib.IntN.{ℤ}
-use Rattle.nodes.specs.Judge.{Judged}
+use Rattle.answers.specs.Judge.{Judged}
 use Rattle.nodes.specs.Node.{Kind.sum, Kind.product}
 use Rattle.text.specs.Tree.{Tree, Tree.plus, Tree.times}
 use Rattle.text.specs.Reader.{Span, span, byteAt, readFactor, isTimes, readTerm, isSign, signed, afterMinus, readSum, inBrackets}

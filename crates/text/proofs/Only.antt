@@ -8,7 +8,7 @@ use native.Mathlib.Omega.{arith}
 use lib.Dec.{eqb}
 use lib.ListN.{length}
 use borrow.Author.Tests.{eqb-true}
-use Rattle.nodes.specs.Judge.{Judged.good}
+use Rattle.answers.specs.Judge.{Judged.good}
 use Rattle.text.specs.Limits.{largestNumber, largestExponent}
 use Rattle.text.specs.Signs.{plusSign, minusSign, timesSign, powerSign, openBracket, closeBracket, isDigit}
 use Rattle.text.specs.Tree as tree
@@ -21,7 +21,7 @@ use Rattle.text.proofs.Words.{Stands, stands-front, stands-back, stands
 use Rattle.text.proofs.Parts.{reading}
 use Rattle.text.proofs.Numerals.{numeral-first, digits-only}
 use Rattle.text.proofs.Sound.{reading-ahead}
-use Rattle.text.proofs.Checks.{good-fails}
+use Rattle.answers.proofs.Judging.{good-fails}
 use Rattle.text.proofs.Branches.{closing, opened, closed, number-read, letter-read, no-power, exponent, factor-is, term-is, term-minus, sum-plain, sum-minus}
 use Rattle.text.proofs.Ahead.{exponent-past, exponent-ahead, closing-ahead}
 use Rattle.text.proofs.Operands.{factors, terms, Chain}

@@ -5,11 +5,11 @@ use mathlib.Core.List.{List}
 use Prim.Native.Nat.{ℕ, _+_, _-_, _≤_, _<_}
 use native.Mathlib.Omega.{arith}
 use lib.ListN.{length}
-use Rattle.nodes.specs.Judge.{Judged, Judged.good, andThen}
+use Rattle.answers.specs.Judge.{Judged, Judged.good, andThen}
 use Rattle.text.specs.Tree.{Tree, Tree.plus, Tree.times}
 use Rattle.text.specs.Reader.{Span, span, byteAt, Reader, readFactor, readMore, isTimes, readTerm, isSign, signed}
 use Rattle.text.proofs.Byte.{passes-inside}
-use Rattle.text.proofs.Checks.{then-good}
+use Rattle.answers.proofs.Judging.{then-good}
 use Rattle.text.proofs.Branches.{more-stops, more-then}
 
 -- what is joined, and how; past the end of the text there is no joint

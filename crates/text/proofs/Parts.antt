@@ -4,7 +4,7 @@ use mathlib.Core.List.{List, [], _∷_, _++_, append-assoc, append-nil}
 use Prim.Native.Nat.{ℕ, _+_, _≤_}
 use native.Mathlib.Omega.{arith}
 use Rattle.answers.specs.Refusals.{TEXT}
-use Rattle.nodes.specs.Judge.{Judged, Judged.good, Judged.fails, andThen}
+use Rattle.answers.specs.Judge.{Judged, Judged.good, Judged.fails, andThen}
 use Rattle.text.specs.Tree.{Tree}
 use Rattle.text.specs.Grammar.{Level, Level.sum, Level.term, Level.factor, Level.atom}
 use Rattle.text.specs.Reader.{Span, byteAt, Reader, readAtom, readFactor, readTerm, readSum, inBrackets}

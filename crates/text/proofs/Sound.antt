@@ -7,7 +7,7 @@ use native.Mathlib.Omega.{arith}
 use lib.Dec.{eqb}
 use lib.ListN.{length}
 use borrow.Author.Tests.{eqb-true}
-use Rattle.nodes.specs.Judge.{holding}
+use Rattle.answers.specs.Judge.{holding}
 use Rattle.text.specs.Limits.{largestNumber, largestExponent}
 use Rattle.text.specs.Signs.{plusSign, minusSign, timesSign, powerSign, openBracket, closeBracket, zeroDigit, isDigit}
 use Rattle.text.specs.Letters.{Letter, Letter.names, Letter.nothing, letterOf}

@@ -5,7 +5,7 @@ use Prim.Native.Nat.{ℕ, _≤_}
 use native.Mathlib.Omega.{arith}
 use lib.IntN.{ℤ}
 use Rattle.answers.specs.Refusals.{TEXT}
-use Rattle.nodes.specs.Judge.{Judged, Judged.good, Judged.fails}
+use Rattle.answers.specs.Judge.{Judged, Judged.good, Judged.fails}
 use Rattle.text.specs.declared.readers.Read.{Read}
 use Rattle.text.specs.declared.readers.Read.the-variants.{At, Fault}
 use Rattle.text.specs.Tree.{Tree}

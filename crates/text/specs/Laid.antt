@@ -9,7 +9,7 @@ use lib.ListN.{length}
 use lib.Seq.{sets}
 use Rattle.algebra.specs.Limits.{mostNodes}
 use Rattle.answers.specs.Refusals.{TEXT}
-use Rattle.nodes.specs.Judge.{Judged, Judged.good, Judged.fails}
+use Rattle.answers.specs.Judge.{Judged, Judged.good, Judged.fails}
 use Rattle.nodes.specs.Node.{Kind, Kind.integer, Kind.product, numbersOf, tableOf}
 use Rattle.text.specs.declared.readers.Read.{Read}
 use Rattle.text.specs.declared.readers.Read.the-variants.{At, Fault}

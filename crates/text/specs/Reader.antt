@@ -5,7 +5,7 @@ use Prim.Native.Nat.{ℕ, zero, suc, _+_, _-_, _*_}
 use lib.Dec.{eqb, leb}
 use lib.ListN.{length, getD, drop}
 use Rattle.answers.specs.Refusals.{TEXT}
-use Rattle.nodes.specs.Judge.{Judged, Judged.good, Judged.fails, holding, andThen}
+use Rattle.answers.specs.Judge.{Judged, Judged.good, Judged.fails, holding, andThen}
 use Rattle.text.specs.Limits.{deepest, largestNumber, largestExponent}
 use Rattle.text.specs.Signs.{plusSign, minusSign, timesSign, powerSign, openBracket, closeBracket, zeroDigit, isDigit}
 use Rattle.text.specs.Letters.{Letter, Letter.names, Letter.nothing, letterOf}

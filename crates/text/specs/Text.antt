@@ -9,7 +9,7 @@ use Rattle.algebra.specs.Limits.{mostNodes}
 use Rattle.answers.specs.Refusals.{ROOM, TEXT, NODES}
 use Rattle.answers.specs.Answers.{Told.done, Told.refused, Outcome, outcome, check}
 use Rattle.answers.specs.Areas.{written}
-use Rattle.nodes.specs.Judge.{Judged, Judged.good, Judged.fails, holding, andThen}
+use Rattle.answers.specs.Judge.{Judged, Judged.good, Judged.fails, holding, andThen}
 use Rattle.nodes.specs.Node.{tableOf}
 use Rattle.text.specs.Limits.{longestText, tablePlaces}
 use Rattle.text.specs.Tree.{Tree, size, nodesOf}

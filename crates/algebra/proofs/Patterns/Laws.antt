@@ -6,7 +6,7 @@ use native.Mathlib.Omega.{arith}
 use native.Mathlib.Nat.{add-comm, add-assoc, add-zero, zero-add}
 use lib.ListN.{length, set, length-set, length-append, length-replicate}
 use lib.Seq.{getD-set-same, set-set, set-getD}
-use Rattle.algebra.specs.Pattern.{Pattern, emptyPattern, times, degree, exponent, raised, lowered, filled}
+use Rattle.algebra.specs.Pattern.{Pattern, emptyPattern, times, degree, exponent, raised, lowered, without, filled}
 
 -- ---- Products.
 
@@ -124,6 +124,29 @@ unfolding degree
 alone-degree zero v e h = absurd (omega arith)
 alone-degree (suc n) zero e h = omega (arith, empty-degree n)
 alone-degree (suc n) (suc v) e h = omega (arith, alone-degree n v e (omega arith))
+
+-- a pattern is its power of v and the rest
+pub without-times : (n v : ℕ) (p : Pattern) → length p ≡ n → v < n → times (without v p) (set (emptyPattern n) v (exponent v p)) ≡ p
+unfolding times
+without-times n v [] h inside = absurd (omega arith)
+without-times zero v (e ∷ p) h inside = absurd (omega arith)
+without-times (suc n) zero (e ∷ p) h inside =
+    ap₂ _∷_ (zero-add e) (times-comm p (emptyPattern n) ∙ empty-times n p (omega arith))
+without-times (suc n) (suc v) (e ∷ p) h inside = ap₂ _∷_ (add-zero e) (without-times n v p (omega arith) (omega arith))
+
+-- one power more is a product with the variable
+pub raised-times : (n v : ℕ) (p : Pattern) → length p ≡ n → v < n → times (set (emptyPattern n) v 1) p ≡ raised v p
+unfolding times
+raised-times n v [] h inside = absurd (omega arith)
+raised-times zero v (e ∷ p) h inside = absurd (omega arith)
+raised-times (suc n) zero (e ∷ p) h inside = ap₂ _∷_ (omega arith) (empty-times n p (omega arith))
+raised-times (suc n) (suc v) (e ∷ p) h inside = ap₂ _∷_ (zero-add e) (raised-times n v p (omega arith) (omega arith))
+
+pub without-degree : (v : ℕ) (p : Pattern) → degree (without v p) + exponent v p ≡ degree p
+unfolding degree
+without-degree v [] = refl
+without-degree zero (e ∷ p) = omega arith
+without-degree (suc v) (e ∷ p) = omega (arith, without-degree v p)
 
 pub filled-length : (n : ℕ) (p : Pattern) → length p ≤ n → length (filled n p) ≡ n
 filled-length n p h = length-append p (emptyPattern (n - length p)) ∙ omega (arith, empty-length (n - length p))

@@ -4,10 +4,10 @@ use mathlib.Core.List.{[], _∷_, _++_}
 use Prim.Native.Nat.{ℕ, _-_, _<_, compare, Ordering, Ordering·lt, Ordering·eq, Ordering·gt}
 use native.Mathlib.Omega.{arith}
 use lib.Dec.{T, eqb, eqb→eq, eqb-refl}
-use lib.ListN.{length}
-use Rattle.algebra.specs.Pattern.{Pattern, emptyPattern, filled, times, degree, same, thenBy, byPowers, order}
+use lib.ListN.{length, set, length-set}
+use Rattle.algebra.specs.Pattern.{Pattern, emptyPattern, filled, times, degree, exponent, lowered, same, thenBy, byPowers, order}
 use Rattle.algebra.proofs.Numbers.Test.{and, and-l, and-r}
-use Rattle.algebra.proofs.Patterns.Laws.{degree-times, filled-degree}
+use Rattle.algebra.proofs.Patterns.Laws.{degree-times, present, raised-lowered, raised-times, alone-length, filled-degree}
 use Rattle.algebra.proofs.Numbers.Compare.{Says, compare-says, compare-is, compare-eq, turn, compare-turn, compare-add}
 
 -- ---- The test that two patterns are the same.
@@ -134,6 +134,23 @@ pub order-times : (u p q : Pattern) → length p ≡ length q → length u ≡ l
 unfolding order
 order-times u p q h k =
     ap₂ thenBy (ap₂ compare (degree-times u q) (degree-times u p) ∙ compare-add (degree u) (degree q) (degree p)) (powers-times u p q h k)
+
+-- nor does one power less of a variable that both have
+pub order-lowered : (v : ℕ) (p q : Pattern) → length p ≡ length q → 0 < exponent v p → 0 < exponent v q → order (lowered v p) (lowered v q) ≡ order p q
+order-lowered v p q h k l = sym (order-times one (lowered v p) (lowered v q) (low p q h) (alone-length (length p) v 1 ∙ sym (long p)))
+    ∙ ap₂ order (again p refl k) (again q (sym h) l)
+  where
+    one : Pattern
+    one = set (emptyPattern (length p)) v 1
+
+    long : (r : Pattern) → length (lowered v r) ≡ length r
+    long r = length-set r v (exponent v r - 1)
+
+    low : (r t : Pattern) → length r ≡ length t → length (lowered v r) ≡ length (lowered v t)
+    low r t e = long r ∙ e ∙ sym (long t)
+
+    again : (r : Pattern) → length r ≡ length p → 0 < exponent v r → times one (lowered v r) ≡ r
+    again r e some = raised-times (length p) v (lowered v r) (long r ∙ e) (omega (arith, present v r some)) ∙ raised-lowered v r some
 
 -- ---- Patterns that are filled up with exponents 0 stand as before.
 

@@ -8,10 +8,10 @@ use lib.ListN.{length, set, length-set}
 use lib.Pow.{shl-exact}
 use lib.Seq.{set-getD}
 use Rattle.algebra.specs.Limits.{variables, largestDegree}
-use Rattle.algebra.specs.Pattern.{Pattern, emptyPattern, times, degree, exponent, lowered, thenBy, order}
+use Rattle.algebra.specs.Pattern.{Pattern, emptyPattern, times, degree, exponent, lowered, without, thenBy, order}
 use Rattle.algebra.specs.Word.{fieldSize, word, exponents, isValid, Valid}
 use Rattle.algebra.proofs.Numbers.Test.{and, and-l, and-r}
-use Rattle.algebra.proofs.Patterns.Laws.{times-length, degree-times, empty-degree, set-degree}
+use Rattle.algebra.proofs.Patterns.Laws.{times-length, degree-times, empty-degree, set-degree, alone-length, without-times, without-degree}
 use Rattle.algebra.proofs.Patterns.Fields.{below-degree, fields-below, fields-length, word-lt, fields-word, word-fields-lt, field-at, place-bits, word-zero, word-alone, word-times, word-degree, order-word, word-lowered}
 
 -- ---- There and back.
@@ -146,6 +146,19 @@ module _ (w v : ℕ) (inside : v < variables) where
   lowered-none a h =
       let stays : exponent v (exponents w) - 1 ≡ exponent v (exponents w) = omega arith in
       ap (λ (e : ℕ). word (set (exponents w) v e)) stays ∙ ap word (set-getD (exponents w) v 0) ∙ a .is
+
+  pub without-valid : Valid w → Valid (word (without v (exponents w)))
+  without-valid a =
+      word-valid (without v (exponents w)) (length-set (exponents w) v 0 ∙ exponents-length w) (omega (arith, a .low, without-degree v (exponents w)))
+
+  -- no power takes the value of v's power alone away
+  pub without-word : Valid w → word (without v (exponents w)) + word (set (emptyPattern variables) v (exponent v (exponents w))) ≡ w
+  unfolding word
+  without-word a =
+      let long = exponents-length w in
+      let alone = set (emptyPattern variables) v (exponent v (exponents w)) in
+      let alike = length-set (exponents w) v 0 ∙ long ∙ sym (alone-length variables v (exponent v (exponents w))) in
+      sym (word-times fieldSize (without v (exponents w)) alone alike) ∙ ap word (without-times variables v (exponents w) long inside) ∙ a .is
 
 -- any word's exponents are bytes
 pub exponent-small : (w v : ℕ) → v < variables → exponent v (exponents w) ≤ 255

@@ -9,10 +9,10 @@ use borrow.Author.Needs.{needs}
 use Rattle.algebra.specs.Limits.{mostNodes}
 use Rattle.nodes.specs.Node.{kindOf, foundOf}
 use Rattle.nodes.specs.Formal.{formalDegree, formalWeight}
-use Rattle.nodes.specs.Capped.{capped}
+use Rattle.weights.specs.Capped.{capped}
 use Rattle.nodes.proofs.Reading.{read-held}
 use Rattle.nodes.proofs.Spelled.{readNumbers}
-use Rattle.nodes.proofs.Weighing.{capped-light, capped-heavy}
+use Rattle.weights.proofs.Weighing.{capped-light, capped-heavy}
 use Rattle.formula.proofs.Building.{Building, Next, next-as, Allowed, numbersAt, found-fault, start, degrees-low, weights-light, keeps, no-node, is-node, few-nodes, high, heavy, sums-low, sums-light, over, again, ended}
 use Rattle.formula.proofs.form_nodes.Statement.{statement}
 use Rattle.formula.proofs.form_nodes.Tie as tie

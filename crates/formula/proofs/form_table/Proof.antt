@@ -35,7 +35,7 @@ is-shape-requires c κs = search needs
 
 returns : tie.Need-returns
 returns c =
-    (no-shape _ _ _ _ (sym (c .before .is-shape .ensures) ∙ not-true _ (c .if1 .taken)), (refl, refl))
+    (no-shape _ _ (sym (c .before .is-shape .ensures) ∙ not-true _ (c .if1 .taken)), (refl, refl))
 
 form-nodes-requires : tie.Need-form-nodes-requires
 form-nodes-requires c κs =
@@ -58,7 +58,7 @@ same-length-2 c = search needs
 returns-2 : tie.Need-returns-2
 returns-2 c =
     let n = c .before .before .before .before .before .form-nodes in
-    (node-refused _ _ _ _ (shaped (c .before .before .before .before .before .before .before .before)) (n .result) (c .before .match .keys2) (n .ensures .0), n .ensures .1 .1)
+    (node-refused _ _ (shaped (c .before .before .before .before .before .before .before .before)) (n .result) (c .before .match .keys2) (n .ensures .0), n .ensures .1 .1)
 
 sub-start : tie.Need-sub-start
 sub-start c =

@@ -2,19 +2,19 @@
 use mathlib.Core.Path.{sym}
 use native.Mathlib.Omega.{arith}
 use borrow.Author.Needs.{needs}
-use Rattle.formula.proofs.Simplifying.{without-room}
-use Rattle.formula.proofs.Answering.{all-cleared}
+use Rattle.packed.proofs.Working.{without-room, all-cleared}
+use Rattle.formula.specs.Simplify.{simplify}
 use Rattle.formula.proofs.simplify.Statement.{statement}
 use Rattle.formula.proofs.simplify.Tie as tie
 
 returns : tie.Need-returns
-returns c = sym (without-room _ _ _ _ (λ r. omega (arith, r .words, c .if1 .taken)))
+returns c = unfold simplify in sym (without-room _ _ _ _ (λ r. omega (arith, r .words, c .if1 .taken)))
 
 returns-2 : tie.Need-returns-2
-returns-2 c = sym (without-room _ _ _ _ (λ r. omega (arith, r .coefficients, c .if2 .taken)))
+returns-2 c = unfold simplify in sym (without-room _ _ _ _ (λ r. omega (arith, r .coefficients, c .if2 .taken)))
 
 returns-3 : tie.Need-returns-3
-returns-3 c = sym (without-room _ _ _ _ (λ r. omega (arith, r .result, c .if3 .taken)))
+returns-3 c = unfold simplify in sym (without-room _ _ _ _ (λ r. omega (arith, r .result, c .if3 .taken)))
 
 form-table-requires : tie.Need-form-table-requires
 form-table-requires c κs = search needs
@@ -39,7 +39,7 @@ returns-4 c =
     let d = c .before .before .before .before .before .before .before .before .before .before .before .before in
     let e = d .before .before .before .before in
     let f = d .form-table in
-    all-cleared _ _ _ _ (f .last .1 .0) (f .last .1 .1 .0) _ (record { words = e .before .before .if1 .left; coefficients = e .before .if2 .left; result = e .if3 .left })
+    unfold simplify in all-cleared _ _ _ _ (f .last .1 .0) (f .last .1 .1 .0) _ (record { words = e .before .before .if1 .left; coefficients = e .before .if2 .left; result = e .if3 .left })
     (f .ensures .0) (f .ensures .1 .0) (f .ensures .1 .1) (c .before .before .before .before .before .clear-words .ensures) (c .before .clear-coefficients .ensures)
 
 pub simplify-spec : {M : Type 1} → statement M

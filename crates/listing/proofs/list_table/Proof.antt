@@ -6,7 +6,7 @@ use lib.IntN.{pos}
 use lib.ListN.{replicate}
 use Rattle.algebra.specs.Limits.{variables, workPlaces}
 use Rattle.packed.specs.Packed.{mostBytes}
-use Rattle.formula.proofs.Simplifying.{Room}
+use Rattle.packed.proofs.Working.{Room}
 use Rattle.listing.proofs.Widths.{refusal-width}
 use Rattle.listing.proofs.Answered.{Simple, simplified, not-simplified, listed-sum, listed-refusal, listed-as}
 use Rattle.listing.proofs.list_table.Statement.{statement}

@@ -7,7 +7,7 @@ use lib.ListN.{length}
 use mir.Syntax.{w64}
 use mir.ValLaws.{toZ-ofZ}
 use Rattle.nodes.specs.Formal.{formalWeight}
-use Rattle.nodes.specs.Capped.{capped}
+use Rattle.weights.specs.Capped.{capped}
 use Rattle.nodes.proofs.Formally.{sum-children, product-children, power-child, weight-at}
 use borrow.Author.Needs.{needs}
 use Rattle.nodes.proofs.formal_weight.Statement.{statement}
@@ -64,32 +64,32 @@ cap-requires-2 c κs = search needs
 enum-known-kind-3 : tie.Need-enum-known-kind-3
 enum-known-kind-3 c = search needs
 
-mul-weight-product : tie.Need-mul-weight-product
-mul-weight-product c = let h = of-product c in search needs
+mul-product : tie.Need-mul-product
+mul-product c = let h = of-product c in search needs
 
-shared-slice-read-weight-product : tie.Need-shared-slice-read-weight-product
-shared-slice-read-weight-product c = of-product (c .before) .0
+shared-slice-read-product : tie.Need-shared-slice-read-product
+shared-slice-read-product c = of-product (c .before) .0
 
-mul-weight-product-2 : tie.Need-mul-weight-product-2
-mul-weight-product-2 c = let h = of-product (c .before) in search needs
+mul-product-2 : tie.Need-mul-product-2
+mul-product-2 c = let h = of-product (c .before) in search needs
 
-shared-slice-read-weight-product-2 : tie.Need-shared-slice-read-weight-product-2
-shared-slice-read-weight-product-2 c = of-product (c .before .before) .1
+shared-slice-read-product-2 : tie.Need-shared-slice-read-product-2
+shared-slice-read-product-2 c = of-product (c .before .before) .1
 
-weight-product-requires : tie.Need-weight-product-requires
-weight-product-requires c κs = search needs
+product-requires : tie.Need-product-requires
+product-requires c κs = search needs
 
 enum-known-kind-4 : tie.Need-enum-known-kind-4
 enum-known-kind-4 c = search needs
 
-mul-weight-power : tie.Need-mul-weight-power
-mul-weight-power c = let h = of-power c in search needs
+mul-power : tie.Need-mul-power
+mul-power c = let h = of-power c in search needs
 
-shared-slice-read-weight-power : tie.Need-shared-slice-read-weight-power
-shared-slice-read-weight-power c = of-power (c .before)
+shared-slice-read-power : tie.Need-shared-slice-read-power
+shared-slice-read-power c = of-power (c .before)
 
-weight-power-requires : tie.Need-weight-power-requires
-weight-power-requires c κs = search needs
+power-requires : tie.Need-power-requires
+power-requires c κs = search needs
 
 returns : tie.Need-returns
 returns c =
@@ -104,10 +104,10 @@ returns-3 : tie.Need-returns-3
 returns-3 c = unfold formalWeight in (c .cap2 .ensures ∙ ap capped (weight-at _ (c .before .before .before .before .kind2 .given .1)))
 
 returns-4 : tie.Need-returns-4
-returns-4 c = unfold formalWeight in (c .weight-product .ensures ∙ ap capped (weight-at _ (c .before .before .before .before .kind3 .given .1)))
+returns-4 c = unfold formalWeight in (c .product .ensures ∙ ap capped (weight-at _ (c .before .before .before .before .kind3 .given .1)))
 
 returns-5 : tie.Need-returns-5
-returns-5 c = unfold formalWeight in (c .weight-power .ensures ∙ ap capped (weight-at _ (c .before .before .before .kind4 .given .1)))
+returns-5 c = unfold formalWeight in (c .power .ensures ∙ ap capped (weight-at _ (c .before .before .before .kind4 .given .1)))
 
 pub formal-weight-spec : {M : Type 1} → statement M
 formal-weight-spec =
@@ -125,15 +125,15 @@ formal-weight-spec =
     add-cap
     cap-requires-2
     enum-known-kind-3
-    mul-weight-product
-    shared-slice-read-weight-product
-    mul-weight-product-2
-    shared-slice-read-weight-product-2
-    weight-product-requires
+    mul-product
+    shared-slice-read-product
+    mul-product-2
+    shared-slice-read-product-2
+    product-requires
     enum-known-kind-4
-    mul-weight-power
-    shared-slice-read-weight-power
-    weight-power-requires
+    mul-power
+    shared-slice-read-power
+    power-requires
     returns
     returns-2
     returns-3

@@ -10,14 +10,14 @@ use borrow.Fn.Kinds.{In, Out}
 use mir.Syntax.{w64}
 use mir.ValLaws.{toZ-pos}
 use Rattle.algebra.specs.Limits.{variables}
-use Rattle.nodes.specs.Judge.{andThen}
+use Rattle.answers.specs.Judge.{andThen}
 use Rattle.text.specs.Limits.{largestNumber}
 use Rattle.text.specs.Signs.{openBracket, closeBracket, isDigit}
 use Rattle.text.specs.Letters.{Letter, letterIs}
 use Rattle.text.specs.Reader.{byteAt, readLetter, readAtom, readSum, inBrackets}
 use Rattle.text.proofs.Byte.{inside, letter-above, letter-variable}
 use Rattle.text.proofs.Digits.{Reaches, digits-reach}
-use Rattle.text.proofs.Checks.{then-good, then-fails}
+use Rattle.answers.proofs.Judging.{then-good, then-fails}
 use Rattle.text.proofs.Growing.{number-part, letter-part, moved}
 use Rattle.text.proofs.Branches.{closing, none-left, opened, closed, unclosed, number-read, letter-read}
 use Rattle.text.proofs.Told.{Told, told, faults, answered, failed}

@@ -12,7 +12,7 @@ use Rattle.text.specs.Signs.{powerSign, isDigit}
 use Rattle.text.specs.Reader.{byteAt, readAtom, inBrackets}
 use Rattle.text.proofs.Digits.{Reaches, digits-reach}
 use Rattle.text.proofs.Table.{base-before}
-use Rattle.text.proofs.Checks.{then-good, then-fails}
+use Rattle.answers.proofs.Judging.{then-good, then-fails}
 use Rattle.text.proofs.Growing.{raised-part}
 use Rattle.text.proofs.Branches.{no-power, no-exponent, exponent, factor-is}
 use Rattle.text.proofs.Told.{Told, told, faults, answered, failed}

@@ -13,7 +13,7 @@ use Rattle.text.specs.Limits.{longestText}
 use Rattle.text.specs.Reader.{byteAt, readTerm, isSign, afterMinus, inBrackets}
 use Rattle.text.proofs.Table.{both-before}
 use Rattle.text.proofs.Growing.{Grown, sign-grown, start-ahead, start-within}
-use Rattle.text.proofs.Checks.{then-fails}
+use Rattle.answers.proofs.Judging.{then-fails}
 use Rattle.text.proofs.Branches.{sum-is}
 use Rattle.text.proofs.Told.{Told, told, faults, answered, failed}
 use Rattle.text.proofs.Operands.{chain-stops, inside, goes-on}

@@ -12,7 +12,7 @@ use borrow.Fn.Kinds.{In, Out}
 use Rattle.text.specs.Signs.{timesSign}
 use Rattle.text.specs.Reader.{byteAt, readFactor, isTimes, inBrackets}
 use Rattle.text.proofs.Table.{both-before}
-use Rattle.text.proofs.Checks.{then-fails}
+use Rattle.answers.proofs.Judging.{then-fails}
 use Rattle.text.proofs.Branches.{term-is}
 use Rattle.text.proofs.Told.{Told, told, faults, answered, failed}
 use Rattle.text.proofs.Operands.{chain-stops, inside, goes-on}

@@ -6,7 +6,7 @@ use native.Mathlib.Decide.{decLt, ℕ-discrete}
 use native.Mathlib.Nat.{le-div-iff-mul-le, div-lt-iff-lt-mul, min-eq-left, min-eq-right, mul-le-mul-left, mul-comm, mul-zero, pow-zero, pow-suc}
 use native.Mathlib.Numerals.{add-one}
 use Rattle.algebra.specs.Limits.{largestWeight}
-use Rattle.nodes.specs.Capped.{capped}
+use Rattle.weights.specs.Capped.{capped}
 
 pub light-capped : (w : ℕ) → w ≤ largestWeight → w ≡ capped w
 light-capped w h = sym (min-eq-left (omega arith))
@@ -45,6 +45,16 @@ capped-times x w = go (decLt largestWeight x) (ℕ-discrete w 0)
     go (yes heavy) (yes none) = rw none (ap capped (mul-zero (capped x) ∙ sym (mul-zero x)))
     go (yes heavy) (no some) =
         sym (heavy-capped (capped x * w) (above (capped x) some (omega arith))) ∙ heavy-capped (x * w) (above x some heavy)
+
+pub capped-times-right : (x w : ℕ) → capped (x * capped w) ≡ capped (x * w)
+capped-times-right x w = ap capped (mul-comm x (capped w)) ∙ capped-times w x ∙ ap capped (mul-comm w x)
+
+-- and so may an addend
+pub capped-plus : (x w : ℕ) → capped (capped x + w) ≡ capped (x + w)
+capped-plus x w = omega arith
+
+pub capped-plus-right : (x w : ℕ) → capped (x + capped w) ≡ capped (x + w)
+capped-plus-right x w = omega arith
 
 -- ---- A power, by products.
 

@@ -1,9 +1,9 @@
--- `weight_power` meets its contract: the loop keeps `Raising`.
+-- `power` meets its contract: the loop keeps `Raising`.
 use Prim.Native.Nat.{_-_}
 use borrow.Author.Needs.{needs}
-use Rattle.nodes.proofs.Weighing.{Raising, start, again, ended}
-use Rattle.nodes.proofs.weight_power.Statement.{statement}
-use Rattle.nodes.proofs.weight_power.Tie as tie
+use Rattle.weights.proofs.Weighing.{Raising, start, again, ended}
+use Rattle.weights.proofs.power.Statement.{statement}
+use Rattle.weights.proofs.power.Tie as tie
 
 abbrev Inv-loop : tie.InvT-loop
 Inv-loop w e power₀ k₀ power k = Raising w e power k
@@ -14,8 +14,8 @@ abbrev μ-loop : tie.MeasureT-loop
 loop-holds : tie.Need-loop-holds Inv-loop μ-loop
 loop-holds c = start _ _
 
-weight-product-requires : tie.Need-weight-product-requires Inv-loop μ-loop
-weight-product-requires c κs = search needs
+product-requires : tie.Need-product-requires Inv-loop μ-loop
+product-requires c κs = search needs
 
 add-k : tie.Need-add-k Inv-loop μ-loop
 add-k c = search needs
@@ -24,19 +24,19 @@ loop-less : tie.Need-loop-less Inv-loop μ-loop
 loop-less c = search needs
 
 loop-again : tie.Need-loop-again Inv-loop μ-loop
-loop-again c = again _ _ _ _ _ (c .before .before .loop .inv) (c .before .loop-test .taken) (c .weight-product .ensures)
+loop-again c = again _ _ _ _ _ (c .before .before .loop .inv) (c .before .loop-test .taken) (c .product .ensures)
 
 returns : tie.Need-returns Inv-loop μ-loop
 returns c = ended _ _ _ _ (c .before .loop .inv) (c .loop-test .left)
 
-pub weight-power-spec : {M : Type 1} → statement M
-weight-power-spec =
+pub power-spec : {M : Type 1} → statement M
+power-spec =
     tie.close
     (tie.spec
     Inv-loop
     μ-loop
     loop-holds
-    weight-product-requires
+    product-requires
     add-k
     loop-less
     loop-again

@@ -2,7 +2,7 @@
 use mathlib.Core.Path.{_≡_}
 use Prim.Native.Nat.{ℕ}
 use native.Mathlib.Omega.{arith}
-use Rattle.nodes.specs.Judge.{Judged, Judged.good, Judged.fails, andThen}
+use Rattle.answers.specs.Judge.{Judged, Judged.good, Judged.fails, andThen}
 
 module _ {A B : Type 0} {j : Judged A} (f : A → Judged B) where
   pub then-good : {a : A} → j ≡ good a → andThen j f ≡ f a

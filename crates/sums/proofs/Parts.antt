@@ -7,7 +7,7 @@ use lib.ListN.{length, take, drop, length-drop}
 use lib.Seq.{take-at, take-take, drop-at, drop-drop, length-take-le}
 use borrow.Rule.Slice.PartMut.{midOf, putMid, take-put}
 use Rattle.algebra.specs.Limits.{mostTerms}
-use Rattle.nodes.specs.Part.{part}
+use Rattle.sums.specs.Part.{part}
 
 -- the length of the slice that is lent for node i, as the code computes it
 abbrev pub span : ℕ → ℕ
@@ -20,6 +20,12 @@ module _ {A : Type 0} (i : ℕ) where
   -- the slice that is lent
   pub lent : (xs : List A) → midOf (mostTerms * i) (span i) xs ≡ part i xs
   lent xs = ap (λ (m : ℕ). midOf (mostTerms * i) m xs) (span-is i)
+
+  -- a slice of its first n places, as the code computes its length
+  pub lent-front : (n : ℕ) → n ≤ mostTerms → (xs : List A) → take (mostTerms * i + n - mostTerms * i) (drop (mostTerms * i) xs) ≡ take n (part i xs)
+  lent-front n few xs =
+      let many : mostTerms * i + n - mostTerms * i ≡ n = omega arith in
+      ap (λ (m : ℕ). take m (drop (mostTerms * i) xs)) many ∙ sym (take-take n mostTerms (drop (mostTerms * i) xs) few)
 
   module _ (xs : List A) (room : mostTerms * suc i ≤ length xs) where
     pub part-length : length (part i xs) ≡ mostTerms

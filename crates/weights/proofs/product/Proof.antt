@@ -1,12 +1,12 @@
--- `weight_product` meets its contract: it is tested before it is formed.
+-- `product` meets its contract: it is tested before it is formed.
 use mathlib.Core.Path.{sym, ap}
 use native.Mathlib.Omega.{arith}
 use native.Mathlib.Nat.{zero-mul}
 use borrow.Author.Needs.{needs}
-use Rattle.nodes.specs.Capped.{capped}
-use Rattle.nodes.proofs.Weighing.{light-capped, heavy-capped, product-heavy, product-light}
-use Rattle.nodes.proofs.weight_product.Statement.{statement}
-use Rattle.nodes.proofs.weight_product.Tie as tie
+use Rattle.weights.specs.Capped.{capped}
+use Rattle.weights.proofs.Weighing.{light-capped, heavy-capped, product-heavy, product-light}
+use Rattle.weights.proofs.product.Statement.{statement}
+use Rattle.weights.proofs.product.Tie as tie
 
 returns : tie.Need-returns
 returns c = rw (c .if1 .taken) (ap capped (sym (zero-mul (c .before .args .w))))
@@ -23,5 +23,5 @@ mul-result c = record { fits = omega (arith, product-light _ _ (c .before .if1 .
 returns-3 : tie.Need-returns-3
 returns-3 c = light-capped _ (product-light _ _ (c .before .if1 .left) (c .if2 .left))
 
-pub weight-product-spec : {M : Type 1} → statement M
-weight-product-spec = tie.close (tie.spec returns div-if2 returns-2 mul-result returns-3)
+pub product-spec : {M : Type 1} → statement M
+product-spec = tie.close (tie.spec returns div-if2 returns-2 mul-result returns-3)

@@ -1,0 +1,151 @@
+-- What an operation knows that reads packed sums and answers with one: each sum, or its fault; and that the result is written.
+use mathlib.Core.Path.{_≡_, refl, sym, _∙_, ap, ap₂}
+use mathlib.Core.List.{List, [], _∷_}
+use Prim.Native.Nat.{ℕ, _+_, _≤_, _<_}
+use native.Mathlib.Omega.{arith}
+use native.Mathlib.Nat.{zero-add}
+use types.Run.{OneOf}
+use denote.Enum.Declared.{tagOf}
+use lib.IntN.{ℤ}
+use lib.ListN.{length, getD}
+use lib.Seq.{sets, sets-eq}
+use Rattle.algebra.specs.Limits.{variables, mostTerms}
+use Rattle.algebra.specs.Sum.{Sum}
+use Rattle.algebra.specs.Accepted.{Accepted}
+use Rattle.algebra.specs.Held.{wordsOf, coefficientsOf, firstTerms}
+use Rattle.answers.specs.Refusals.{SUM, number}
+use Rattle.answers.specs.Answers.{Told, Told.done, Told.refused, told, outcome}
+use Rattle.answers.specs.Areas.{written}
+use Rattle.answers.specs.Judge.{Judged, Judged.good, Judged.fails, andThen}
+use Rattle.answers.specs.declared.Answer.{Answer}
+use Rattle.answers.specs.declared.Answer.the-variants.{Done, Refused}
+use Rattle.answers.proofs.Answer.{the-type}
+use Rattle.answers.proofs.Judging.{then-good, then-fails}
+use Rattle.numbers.specs.Item.{Item, Item.got, Item.cut, Item.bad, mapped}
+use Rattle.numbers.specs.Read.{itemOf}
+use Rattle.numbers.specs.declared.Read.{Read}
+use Rattle.numbers.specs.declared.Read.the-variants.{Value}
+use Rattle.numbers.proofs.Read.{the-type as read-type}
+use Rattle.numbers.proofs.Items.{Alike, stopped, answered}
+use Rattle.packed.specs.Packed.{packed, mostBytes}
+use Rattle.packed.specs.ReadSum.{readWhole}
+use Rattle.packed.specs.Held.{readInto}
+use Rattle.packed.specs.Whole.{judged}
+use Rattle.packed.specs.Unpack.{unpack}
+use Rattle.packed.specs.Result.{heldInto, packedInto}
+use Rattle.packed.proofs.Sizes.{packed-most}
+use Rattle.packed.proofs.Trip.{whole-read, whole-written}
+use Rattle.packed.proofs.Unpacking.{has-room}
+use Rattle.packed.proofs.Inverse.{refused-done, Unpacks, unpack-accepted}
+
+-- ---- The bytes that are given.
+
+-- they are those of an accepted sum
+pub record PackedSum (bytes : List ℕ) (s : Sum) : Type 0 where
+  pub accepted : Accepted variables s
+  pub bytes-are : bytes ≡ packed s
+
+-- an item is cut or bad at a place
+pub data AtFault {A : Type 0} (item : Item A) (place : ℕ) : Type 0 where
+  is-cut : item ≡ cut place → AtFault item place
+  is-bad : item ≡ bad place → AtFault item place
+
+pub fault-judged : {A : Type 0} {item : Item A} {place : ℕ} (refusal : ℕ) → AtFault item place → judged refusal item ≡ fails refusal place
+fault-judged refusal (is-cut e) = ap (judged refusal) e
+fault-judged refusal (is-bad e) = ap (judged refusal) e
+
+pub sum-judged : {bytes : List ℕ} {s : Sum} → PackedSum bytes s → judged SUM (readWhole variables bytes) ≡ good s
+sum-judged {bytes} {s} p = ap (λ l. judged SUM (readWhole variables l)) (p .bytes-are) ∙ ap (judged SUM) (whole-read variables s (p .accepted))
+
+-- one of the two
+pub data Reading (bytes : List ℕ) : Type 0 where
+  a-sum : (s : Sum) → PackedSum bytes s → Reading bytes
+  a-fault : (place : ℕ) → AtFault (readWhole variables bytes) place → Reading bytes
+
+pub reading : (bytes : List ℕ) → ((i : ℕ) → getD bytes i 0 < 256) → Reading bytes
+reading bytes byte = go (readWhole variables bytes) refl
+  where
+    go : (item : Item Sum) → readWhole variables bytes ≡ item → Reading bytes
+    go (got s end) e = let w = whole-written bytes byte variables s end e in a-sum s (record { accepted = w .1; bytes-are = w .0 })
+    go (cut place) e = a-fault place (is-cut e)
+    go (bad place) e = a-fault place (is-bad e)
+
+-- ---- What `unpack` answers, whose areas have room for every sum.
+
+pub unpacks-sum : {bytes ws : List ℕ} {cs : List ℤ} {count : ℕ} {ws' : List ℕ} {cs' : List ℤ} (u : Unpacks bytes ws cs count ws' cs') → PackedSum bytes (u .sum)
+unpacks-sum u = record { accepted = u .accepted; bytes-are = u .bytes-are }
+
+pub unpack-done : {bytes : List ℕ} (ws : List ℕ) (cs : List ℤ) {ws' : List ℕ} {cs' : List ℤ} {count : ℕ} {r : Answer} → ((i : ℕ) → getD bytes i 0 < 256) → r ≡ Done count
+    → outcome (told r) (ws', cs') ≡ unpack bytes ws cs → Unpacks bytes ws cs count ws' cs'
+unpack-done ws cs {ws'} {cs'} byte is e = unpack-accepted byte (sym e ∙ ap (λ r. outcome (told r) (ws', cs')) is)
+
+-- the refusal that is handed on
+pub record Handed (bytes : List ℕ) (t : Told) : Type 0 where
+  pub place : ℕ
+  pub says : t ≡ refused SUM place
+  pub fault : AtFault (readWhole variables bytes) place
+
+pub unpack-refused : {bytes : List ℕ} (ws : List ℕ) (cs : List ℤ) {ws' : List ℕ} {cs' : List ℤ} → mostTerms ≤ length ws → mostTerms ≤ length cs
+    → (r : Answer) → OneOf (1 ∷ []) (tagOf the-type r) → outcome (told r) (ws', cs') ≡ unpack bytes ws cs → Handed bytes (told r)
+unfolding heldInto
+unpack-refused ws cs words coefficients (Done n) key e = absurd (omega arith)
+unpack-refused {bytes} ws cs {ws'} {cs'} words coefficients (Refused refusal p) key e =
+    go (readWhole variables bytes) refl (e ∙ has-room bytes ws cs words coefficients)
+  where
+    go : (item : Item Sum) → readWhole variables bytes ≡ item → outcome (refused (number refusal) p) (ws', cs') ≡ heldInto (judged SUM item) ws cs
+        → Handed bytes (refused (number refusal) p)
+    go (got s end) read e = absurd (refused-done (ap (λ o. o .answer) e))
+    go (cut place) read e = record { place = place; says = ap (λ o. o .answer) e; fault = is-cut read }
+    go (bad place) read e = record { place = place; says = ap (λ o. o .answer) e; fault = is-bad read }
+
+-- ---- What `read_sum` answers: the fault that was met, or the sum that the areas hold.
+
+counted : (item : Item Sum) (ws : List ℕ) (cs : List ℤ) → readInto item ws cs .0 ≡ mapped length item
+unfolding readInto mapped
+counted (got s next) ws cs = refl
+counted (cut place) ws cs = refl
+counted (bad place) ws cs = refl
+
+pub record ReadAt (item : Item Sum) (ws : List ℕ) (cs : List ℤ) (ws' : List ℕ) (cs' : List ℤ) (count end : ℕ) : Type 0 where
+  pub sum : Sum
+  pub read : item ≡ got sum end
+  pub many : length sum ≡ count
+  pub words-are : ws' ≡ written (wordsOf sum) ws
+  pub coefficients-are : cs' ≡ written (coefficientsOf sum) cs
+
+module _ (r : Read) (item : Item Sum) (ws : List ℕ) (cs : List ℤ) {ws' : List ℕ} {cs' : List ℤ} (e : (itemOf r, ws', cs') ≡ readInto item ws cs) where
+  pub into-stopped : OneOf (1 ∷ 2 ∷ []) (tagOf read-type r) → Alike (itemOf r) item
+  into-stopped keys = stopped r keys length item (ap (λ x. x .0) e ∙ counted item ws cs)
+
+  pub into-read : {count end : ℕ} → r ≡ Value count end → ReadAt item ws cs ws' cs' count end
+  unfolding readInto
+  into-read is =
+      let from = answered r is length item (ap (λ x. x .0) e ∙ counted item ws cs) in
+      let held = e ∙ ap (λ i. readInto i ws cs) (from .is) in
+      record { sum = from .value; read = from .is; many = from .shown; words-are = ap (λ x. x .1) held; coefficients-are = ap (λ x. x .2) held }
+
+-- ---- The checks go on with the sum, or end with its fault.
+
+module _ (bytes : List ℕ) (f : Sum → Judged Sum) (area : List ℕ) where
+  pub sum-given : {s : Sum} → PackedSum bytes s → packedInto (andThen (judged SUM (readWhole variables bytes)) f) area ≡ packedInto (f s) area
+  sum-given p = ap (λ j. packedInto j area) (then-good f (sum-judged p))
+
+  pub sum-refused : {place : ℕ} → AtFault (readWhole variables bytes) place
+      → packedInto (andThen (judged SUM (readWhole variables bytes)) f) area ≡ outcome (refused SUM place) area
+  unfolding packedInto
+  sum-refused a = ap (λ j. packedInto j area) (then-fails f (fault-judged SUM a))
+
+-- ---- The result is written.
+
+module _ (s : Sum) (count : ℕ) (ws : List ℕ) (cs : List ℤ) (area : List ℕ) (held : firstTerms count ws cs ≡ s) (accepted : Accepted variables s) (room : mostBytes variables ≤ length area) where
+  pub result-room : 0 + length (packed (firstTerms count ws cs)) ≤ length area
+  result-room = rw held (omega (arith, packed-most variables s accepted))
+
+  pub result-written : {n : ℕ} {area' : List ℕ} → n ≡ 0 + length (packed (firstTerms count ws cs)) → area' ≡ sets area 0 (packed (firstTerms count ws cs))
+      → outcome (done n) area' ≡ packedInto (good s) area
+  unfolding packedInto
+  result-written there now =
+      let bytes = packed (firstTerms count ws cs) in
+      let stands : sets area 0 bytes ≡ written bytes area = rw (zero-add (length bytes)) at (sets-eq bytes area 0 result-room) in
+      ap₂ (λ (m : ℕ) (l : List ℕ). outcome (done m) l) (there ∙ zero-add (length bytes)) (now ∙ stands)
+      ∙ ap (λ (l : Sum). packedInto (good l) area) held
