@@ -1,0 +1,19 @@
+-- Each public function's contract leaves one outcome, as its caller sees it: the result, and every place of both areas that it lent.
+use mathlib.Core.Path.{_≡_}
+use Prim.Native.Nat.{ℕ}
+use denote.Ref.{now}
+use Rattle.answers.proofs.Outcomes.{One, OneLent, same}
+use Rattle.sums.proofs.Unique.{Areas, told-one}
+use Rattle.pair.specs.declared.Measured.{Measured}
+use Rattle.pair.proofs.measure.Reads as measure
+use Rattle.pair.proofs.putting.put.Reads as put
+
+-- what is measured is its three numbers
+measured : {m n : Measured} {d w p : ℕ} → (m .degree ≡ d) × (m .weight ≡ w) × (m .power ≡ p) → (n .degree ≡ d) × (n .weight ≡ w) × (n .power ≡ p) → m ≡ n
+measured h h' = λ j. record { degree = same (h .0) (h' .0) j; weight = same (h .1) (h' .1) j; power = same (h .2) (h' .2) j }
+
+pub measure-one : One measure.Learnt
+measure-one k a r r' e e' h h' = measured h h'
+
+pub put-one : OneLent put.Learnt {L = Areas} (λ k e. (now (e .1 .1 .1 .1 .1 .1 .0), now (e .1 .1 .1 .1 .1 .1 .1 .0)))
+put-one k a r r' e e' h h' = told-one r r' (same h h')

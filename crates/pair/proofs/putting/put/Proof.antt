@@ -1,0 +1,253 @@
+-- `put` meets its contract: the loop keeps `Putting`.
+use mathlib.Core.Path.{refl, sym, _∙_, ap}
+use Prim.Native.Nat.{_+_, _-_}
+use native.Mathlib.Omega.{arith}
+use native.Mathlib.Nat.{sub-zero}
+use borrow.Author.Needs.{needs}
+use lib.IntN.{pos}
+use lib.ListN.{replicate}
+use Rattle.algebra.specs.Limits.{mostTerms}
+use Rattle.sums.specs.Formed.{formedInto}
+use Rattle.sums.proofs.Fronts.{front-few, front-held}
+use Rattle.pair.proofs.Replacing.{Putting, Joining, start, can-add, rows-stop, joins, can-raise, power-stop, raises, ended}
+use Rattle.pair.proofs.putting.put.Statement.{statement}
+use Rattle.pair.proofs.putting.put.Tie as tie
+
+abbrev Inv-loop : tie.InvT-loop
+Inv-loop v largest sp sc fp fc patterns coefficients gp₀ gc₀ wp₀ wc₀ n₀ free all₀ k₀ gp gc wp wc n all k =
+    Putting v largest sp sc fp fc gp gc wp wc n all k
+
+abbrev μ-loop : tie.MeasureT-loop
+μ-loop v largest sp sc fp fc patterns coefficients gp₀ gc₀ wp₀ wc₀ n₀ free all₀ k₀ gp gc wp wc n all k =
+    largest - k
+
+slice-aggregate-integer : tie.Need-slice-aggregate-integer Inv-loop μ-loop
+slice-aggregate-integer c = search needs
+
+slice-aggregate-integer-2 : tie.Need-slice-aggregate-integer-2 Inv-loop μ-loop
+slice-aggregate-integer-2 c = search needs
+
+integer-requires : tie.Need-integer-requires Inv-loop μ-loop
+integer-requires c κs = record { words = search needs; coefficients = search needs }
+
+-- the power 0 stands in the arrays, and no rows are added yet
+first-rows : (d : tie.After-integer Inv-loop μ-loop)
+    → let args = d .before .before .before .before .before .before .args in
+    Joining (args .v) (args .largest) (args .sp .now) (args .sc .now) (args .fp .now) (args .fc .now) (replicate mostTerms 0) (replicate mostTerms (pos 0)) (d .integer .last .1 .0) (d .integer .last .1 .1 .0) 1 0 0
+first-rows d =
+    let pre = d .before .before .before .before .before .before .pre in
+    start (replicate mostTerms 0) (replicate mostTerms (pos 0)) (replicate mostTerms 0) (replicate mostTerms (pos 0)) (pre .0) (pre .1 .0) (pre .1 .1 .0) refl refl (d .integer .ensures) (sym (d .integer .kept .1 .0)) (sym (d .integer .kept .1 .1 .0))
+
+sub-add-rows : tie.Need-sub-add-rows Inv-loop μ-loop
+sub-add-rows c = search needs
+
+part-add-rows-start : tie.Need-part-add-rows-start Inv-loop μ-loop
+part-add-rows-start c = search needs
+
+part-add-rows-end : tie.Need-part-add-rows-end Inv-loop μ-loop
+part-add-rows-end c = search needs
+
+sub-add-rows-2 : tie.Need-sub-add-rows-2 Inv-loop μ-loop
+sub-add-rows-2 c = search needs
+
+part-add-rows-start-2 : tie.Need-part-add-rows-start-2 Inv-loop μ-loop
+part-add-rows-start-2 c = search needs
+
+part-add-rows-end-2 : tie.Need-part-add-rows-end-2 Inv-loop μ-loop
+part-add-rows-end-2 c = search needs
+
+slice-aggregate-add-rows : tie.Need-slice-aggregate-add-rows Inv-loop μ-loop
+slice-aggregate-add-rows c = search needs
+
+slice-aggregate-add-rows-2 : tie.Need-slice-aggregate-add-rows-2 Inv-loop μ-loop
+slice-aggregate-add-rows-2 c = search needs
+
+add-rows-requires : tie.Need-add-rows-requires Inv-loop μ-loop
+add-rows-requires c κs = can-add (first-rows (c .before .before .before .before .before .before .before .before)) (sub-zero 1)
+
+enum-known-first : tie.Need-enum-known-first Inv-loop μ-loop
+enum-known-first c = search needs
+
+enum-told : tie.Need-enum-told Inv-loop μ-loop
+enum-told c = search needs
+
+returns : tie.Need-returns Inv-loop μ-loop
+returns c =
+    let r = c .before .before .before .before .add-rows in
+    rows-stop (first-rows (c .before .before .before .before .before .before .before .before .before .before .before .before .before)) (sub-zero 1) (r .result) (r .ensures) (c .before .match .keys2) _ _
+
+loop-holds : tie.Need-loop-holds Inv-loop μ-loop
+loop-holds c =
+    let r = c .before .before .before .before .before .add-rows in
+    joins (first-rows (c .before .before .before .before .before .before .before .before .before .before .before .before .before .before)) (sub-zero 1) (r .result) (r .ensures) (c .before .first .given .1) (r .kept .1 .1 .1 .1 .1 .1 .0) (r .kept .1 .1 .1 .1 .1 .1 .1 .0)
+
+slice-aggregate-raise : tie.Need-slice-aggregate-raise Inv-loop μ-loop
+slice-aggregate-raise c = search needs
+
+slice-aggregate-raise-2 : tie.Need-slice-aggregate-raise-2 Inv-loop μ-loop
+slice-aggregate-raise-2 c = search needs
+
+raise-requires : tie.Need-raise-requires Inv-loop μ-loop
+raise-requires c κs =
+    let loop = c .before .before .before .loop in
+    let raised = loop .inv .raised in
+    (front-few raised, (can-raise (loop .inv) (c .before .before .loop-test .taken), record { words = omega (arith, raised .words-room); coefficients = omega (arith, raised .coefficients-room) }))
+
+enum-known-raised : tie.Need-enum-known-raised Inv-loop μ-loop
+enum-known-raised c = search needs
+
+enum-told-2 : tie.Need-enum-told-2 Inv-loop μ-loop
+enum-told-2 c = search needs
+
+returns-2 : tie.Need-returns-2 Inv-loop μ-loop
+returns-2 c =
+    let r = c .before .before .before .before .raise in
+    power-stop (c .before .before .before .before .before .before .before .before .loop .inv) (c .before .before .before .before .before .before .before .loop-test .taken) (r .result) (r .ensures) (c .before .match2 .keys2) _ _
+
+-- the next power stands in the arrays, and its rows are not added yet
+next-rows : (d : tie.After-known-told2 Inv-loop μ-loop)
+    → let args = d .before .before .before .before .before .before .before .before .before .before .before .before .before .before .before .before .before .before .before .before .before .before .before .before .before .before .before .before .before .before .args in
+    let loop = d .before .before .before .before .before .before .before .before .before .loop in
+    let r = d .before .before .before .before .before .raise in
+    Joining (args .v) (args .largest) (args .sp .now) (args .sc .now) (args .fp .now) (args .fc .now) (loop .gp) (loop .gc) (r .last .0) (r .last .1 .0) (d .before .raised .given .0 .0) (loop .all) (loop .k + 1)
+next-rows d =
+    let r = d .before .before .before .before .before .raise in
+    raises (d .before .before .before .before .before .before .before .before .before .loop .inv) (d .before .before .before .before .before .before .before .before .loop-test .taken) (r .result) (r .ensures) (d .before .raised .given .1) (r .kept .0) (r .kept .1 .0)
+
+add-k : tie.Need-add-k Inv-loop μ-loop
+add-k c = record { fits = omega (arith, c .before .before .before .before .before .before .before .before .loop-test .taken, c .before .before .before .before .before .before .before .before .before .before .before .before .before .before .before .before .before .before .before .before .before .before .before .before .before .before .before .before .before .before .fits .largest) }
+
+sub-add-rows-3 : tie.Need-sub-add-rows-3 Inv-loop μ-loop
+sub-add-rows-3 c = search needs
+
+part-add-rows-start-3 : tie.Need-part-add-rows-start-3 Inv-loop μ-loop
+part-add-rows-start-3 c = search needs
+
+part-add-rows-end-3 : tie.Need-part-add-rows-end-3 Inv-loop μ-loop
+part-add-rows-end-3 c = let f = next-rows (c .before) .raised in omega (arith, front-few f, f .words-room)
+
+sub-add-rows-4 : tie.Need-sub-add-rows-4 Inv-loop μ-loop
+sub-add-rows-4 c = search needs
+
+part-add-rows-start-4 : tie.Need-part-add-rows-start-4 Inv-loop μ-loop
+part-add-rows-start-4 c = search needs
+
+part-add-rows-end-4 : tie.Need-part-add-rows-end-4 Inv-loop μ-loop
+part-add-rows-end-4 c = let f = next-rows (c .before .before .before) .raised in omega (arith, front-few f, f .coefficients-room)
+
+slice-aggregate-add-rows-3 : tie.Need-slice-aggregate-add-rows-3 Inv-loop μ-loop
+slice-aggregate-add-rows-3 c = search needs
+
+slice-aggregate-add-rows-4 : tie.Need-slice-aggregate-add-rows-4 Inv-loop μ-loop
+slice-aggregate-add-rows-4 c = search needs
+
+add-rows-requires-2 : tie.Need-add-rows-requires-2 Inv-loop μ-loop
+add-rows-requires-2 c κs = can-add (next-rows (c .before .before .before .before .before .before)) (sub-zero _)
+
+enum-known-added : tie.Need-enum-known-added Inv-loop μ-loop
+enum-known-added c = search needs
+
+enum-told-3 : tie.Need-enum-told-3 Inv-loop μ-loop
+enum-told-3 c = search needs
+
+returns-3 : tie.Need-returns-3 Inv-loop μ-loop
+returns-3 c =
+    let r = c .before .before .before .before .add-rows2 in
+    rows-stop (next-rows (c .before .before .before .before .before .before .before .before .before .before .before)) (sub-zero _) (r .result) (r .ensures) (c .before .match3 .keys2) _ _
+
+loop-less : tie.Need-loop-less Inv-loop μ-loop
+loop-less c = search needs
+
+loop-again : tie.Need-loop-again Inv-loop μ-loop
+loop-again c =
+    let r = c .before .before .before .before .before .add-rows2 in
+    joins (next-rows (c .before .before .before .before .before .before .before .before .before .before .before .before)) (sub-zero _) (r .result) (r .ensures) (c .before .added .given .1) (r .kept .1 .1 .1 .1 .1 .1 .0) (r .kept .1 .1 .1 .1 .1 .1 .1 .0)
+
+sub-finish : tie.Need-sub-finish Inv-loop μ-loop
+sub-finish c = search needs
+
+part-finish-start : tie.Need-part-finish-start Inv-loop μ-loop
+part-finish-start c = search needs
+
+part-finish-end : tie.Need-part-finish-end Inv-loop μ-loop
+part-finish-end c = search needs
+
+sub-finish-2 : tie.Need-sub-finish-2 Inv-loop μ-loop
+sub-finish-2 c = search needs
+
+part-finish-start-2 : tie.Need-part-finish-start-2 Inv-loop μ-loop
+part-finish-start-2 c = search needs
+
+part-finish-end-2 : tie.Need-part-finish-end-2 Inv-loop μ-loop
+part-finish-end-2 c = search needs
+
+finish-requires : tie.Need-finish-requires Inv-loop μ-loop
+finish-requires c κs =
+    let loop = c .before .before .before .before .before .before .before .loop in
+    (rw (sub-zero (loop .all)) (front-held (loop .inv .so-far)), c .before .before .before .before .before .before .before .before .before .before .before .before .before .before .before .before .before .before .before .before .before .before .before .before .before .before .before .before .pre .1 .1 .1)
+
+same-length : tie.Need-same-length Inv-loop μ-loop
+same-length c = search needs
+
+same-length-2 : tie.Need-same-length-2 Inv-loop μ-loop
+same-length-2 c = search needs
+
+returns-4 : tie.Need-returns-4 Inv-loop μ-loop
+returns-4 c =
+    let loop = c .before .before .before .before .before .before .before .before .before .before .before .loop in
+    let args = c .before .before .before .before .before .before .before .before .before .before .before .before .before .before .before .before .before .before .before .before .before .before .before .before .before .before .before .before .before .before .before .before .args in
+    (rw (sub-zero (loop .all)) at (c .before .before .before .finish .ensures)) ∙ ap (λ x. formedInto x (args .patterns .now) (args .coefficients .now)) (ended (loop .inv) (c .before .before .before .before .before .before .before .before .before .before .loop-test .left))
+
+pub put-spec : {M : Type 1} → statement M
+put-spec =
+    tie.close
+    (tie.spec
+    Inv-loop
+    μ-loop
+    slice-aggregate-integer
+    slice-aggregate-integer-2
+    integer-requires
+    sub-add-rows
+    part-add-rows-start
+    part-add-rows-end
+    sub-add-rows-2
+    part-add-rows-start-2
+    part-add-rows-end-2
+    slice-aggregate-add-rows
+    slice-aggregate-add-rows-2
+    add-rows-requires
+    enum-known-first
+    enum-told
+    returns
+    loop-holds
+    slice-aggregate-raise
+    slice-aggregate-raise-2
+    raise-requires
+    enum-known-raised
+    enum-told-2
+    returns-2
+    add-k
+    sub-add-rows-3
+    part-add-rows-start-3
+    part-add-rows-end-3
+    sub-add-rows-4
+    part-add-rows-start-4
+    part-add-rows-end-4
+    slice-aggregate-add-rows-3
+    slice-aggregate-add-rows-4
+    add-rows-requires-2
+    enum-known-added
+    enum-told-3
+    returns-3
+    loop-less
+    loop-again
+    sub-finish
+    part-finish-start
+    part-finish-end
+    sub-finish-2
+    part-finish-start-2
+    part-finish-end-2
+    finish-requires
+    same-length
+    same-length-2
+    returns-4)
