@@ -1,0 +1,178 @@
+-- Slope, as its caller sees it: exactly when it is done, with which sum, and exactly when it is refused, and how.
+use mathlib.Core.Path.{_≡_, refl, sym, _∙_, ap, subst}
+use mathlib.Core.List.{List}
+use Prim.Native.Nat.{ℕ, suc, _≤_, _<_}
+use native.Mathlib.Omega.{arith}
+use native.Mathlib.Nat.{le-trans}
+use native.Mathlib.Decide.{decLt}
+use borrow.Author.Tests.{lt-ltb, le-ltb, le-leb, lt-leb}
+use lib.IntN.{pos, _*ℤ_}
+use lib.ListN.{length, getD}
+use Rattle.algebra.specs.Limits.{variables, mostTerms, largestWeight}
+use Rattle.algebra.specs.Pattern.{Pattern, exponent, raised}
+use Rattle.algebra.specs.Sum.{Sum, weight}
+use Rattle.algebra.specs.Accepted.{Accepted}
+use Rattle.algebra.specs.Slope as algebra
+use Rattle.algebra.specs.Value.{coefficient}
+use Rattle.algebra.proofs.Sums.Slopes.{slope-coefficient, slope-ordered, slope-degree, slope-length}
+use Rattle.answers.specs.Refusals.{ROOM, WEIGHT, SPREAD, SUM, VARIABLE}
+use Rattle.answers.specs.Answers.{Told, Told.done, Told.refused, Outcome, outcome}
+use Rattle.answers.specs.Areas.{written}
+use Rattle.answers.specs.Judge.{Judged.good, Judged.fails, holding, andThen}
+use Rattle.packed.specs.Packed.{packed, mostBytes}
+use Rattle.packed.specs.ReadSum.{readWhole}
+use Rattle.packed.specs.Whole.{judged}
+use Rattle.packed.specs.Result.{packedInto}
+use Rattle.packed.proofs.Results.{PackedSum, AtFault, Reading, Reading.a-sum, Reading.a-fault, reading, sum-given, sum-refused}
+use Rattle.change.specs.Slope.{judgeSlope, slope}
+
+-- ---- The slope of an accepted sum is accepted, if it is light: its degree is no higher, and it has no more terms.
+
+pub slope-accepted : (v : ℕ) (s : Sum) → Accepted variables s → weight (algebra.slope v s) ≤ largestWeight → Accepted variables (algebra.slope v s)
+slope-accepted v s a light = record {
+  isOrdered = slope-ordered variables v s (a .isOrdered);
+  light = light;
+  low = le-trans (slope-degree v s) (a .low);
+  few = le-trans (slope-length v s) (a .few);
+}
+
+-- ---- Check by check, of the sum that is given.
+
+module _ (v : ℕ) (s : Sum) where
+  judge-variable : variables ≤ v → judgeSlope v s ≡ fails VARIABLE 0
+  unfolding judgeSlope holding
+  judge-variable unknown = rw (le-ltb v variables unknown)
+
+  module _ (known : v < variables) where
+    judge-weight : largestWeight < weight (algebra.slope v s) → judgeSlope v s ≡ fails WEIGHT 0
+    unfolding judgeSlope holding
+    judge-weight above = rw (lt-ltb v variables known, lt-leb (weight (algebra.slope v s)) largestWeight above)
+
+    module _ (light : weight (algebra.slope v s) ≤ largestWeight) where
+      judge-spread : mostTerms < length (algebra.slope v s) → judgeSlope v s ≡ fails SPREAD 0
+      unfolding judgeSlope holding
+      judge-spread above = rw (lt-ltb v variables known, le-leb (weight (algebra.slope v s)) largestWeight light, lt-leb (length (algebra.slope v s)) mostTerms above)
+
+      judge-good : length (algebra.slope v s) ≤ mostTerms → judgeSlope v s ≡ good (algebra.slope v s)
+      unfolding judgeSlope holding
+      judge-good few = rw (lt-ltb v variables known, le-leb (weight (algebra.slope v s)) largestWeight light, le-leb (length (algebra.slope v s)) mostTerms few)
+
+-- ---- The outcomes.
+
+module _ (bytes : List ℕ) (v : ℕ) (area : List ℕ) where
+  -- it is done: every check passes, and the result is the slope of the sum that was given
+  pub record Sloped (n : ℕ) (area' : List ℕ) : Type 0 where
+    pub sum : Sum
+    pub result : Sum
+    pub room : mostBytes variables ≤ length area
+    pub accepted : Accepted variables sum
+    pub bytes-are : bytes ≡ packed sum
+    pub known : v < variables
+    pub result-is : result ≡ algebra.slope v sum
+    pub result-accepted : Accepted variables result
+    -- the coefficient of each pattern is that of the pattern with one power of v more, times that power
+    pub coefficients-are : (r : Pattern) → length r ≡ variables → coefficient result r ≡ pos (suc (exponent v r)) *ℤ coefficient sum (raised v r)
+    pub many : n ≡ length (packed result)
+    pub area-is : area' ≡ written (packed result) area
+
+  -- it is refused: the refusal, its place, and the area, which stays. (A sum has no more terms than 128, and its slope no more than the sum: `never-wide`.)
+  pub data Refuses : ℕ → ℕ → List ℕ → Type 0 where
+    no-room : length area < mostBytes variables → Refuses ROOM 0 area
+    at-sum : {p : ℕ} → mostBytes variables ≤ length area → AtFault (readWhole variables bytes) p → Refuses SUM p area
+    no-variable : {s : Sum} → mostBytes variables ≤ length area → PackedSum bytes s → variables ≤ v → Refuses VARIABLE 0 area
+    heavy : {s : Sum} → mostBytes variables ≤ length area → PackedSum bytes s → v < variables → largestWeight < weight (algebra.slope v s) → Refuses WEIGHT 0 area
+    wide : {s : Sum} → mostBytes variables ≤ length area → PackedSum bytes s → v < variables → weight (algebra.slope v s) ≤ largestWeight
+        → mostTerms < length (algebra.slope v s) → Refuses SPREAD 0 area
+
+  without-room : length area < mostBytes variables → slope bytes v area ≡ outcome (refused ROOM 0) area
+  unfolding slope
+  without-room short = rw (lt-leb (mostBytes variables) (length area) short)
+
+  with-room : mostBytes variables ≤ length area → slope bytes v area ≡ packedInto (andThen (judged SUM (readWhole variables bytes)) (judgeSlope v)) area
+  unfolding slope
+  with-room room = rw (le-leb (mostBytes variables) (length area) room)
+
+  module _ (room : mostBytes variables ≤ length area) where
+    at-fault : {p : ℕ} → AtFault (readWhole variables bytes) p → slope bytes v area ≡ outcome (refused SUM p) area
+    at-fault a = with-room room ∙ sum-refused bytes (judgeSlope v) area a
+
+    module _ {s : Sum} (p : PackedSum bytes s) where
+      after-sum : slope bytes v area ≡ packedInto (judgeSlope v s) area
+      after-sum = with-room room ∙ sum-given bytes (judgeSlope v) area p
+
+      refused-so : {refusal place : ℕ} → judgeSlope v s ≡ fails refusal place → slope bytes v area ≡ outcome (refused refusal place) area
+      unfolding packedInto
+      refused-so e = after-sum ∙ ap (λ j. packedInto j area) e
+
+      -- every check passes
+      pub all-passed : v < variables → weight (algebra.slope v s) ≤ largestWeight → slope bytes v area ≡ packedInto (good (algebra.slope v s)) area
+      all-passed known light = after-sum ∙ ap (λ j. packedInto j area) (judge-good v s known light (slope-accepted v s (p .accepted) light .few))
+
+  pub refuses-slope : {refusal p : ℕ} {area' : List ℕ} → Refuses refusal p area' → slope bytes v area ≡ outcome (refused refusal p) area'
+  refuses-slope (no-room short) = without-room short
+  refuses-slope (at-sum room a) = at-fault room a
+  refuses-slope (no-variable {s} room p unknown) = refused-so room p (judge-variable v s unknown)
+  refuses-slope (heavy {s} room p known above) = refused-so room p (judge-weight v s known above)
+  refuses-slope (wide {s} room p known light above) = refused-so room p (judge-spread v s known light above)
+
+  pub never-wide : {p : ℕ} {area' : List ℕ} → Refuses SPREAD p area' → ⊥
+  never-wide (wide {s} room p known light above) = omega (arith, slope-accepted v s (p .accepted) light .few)
+
+-- the packed bytes of an accepted sum are accepted, if the slope is light
+pub slope-accepts : (s : Sum) (v : ℕ) (area : List ℕ) → mostBytes variables ≤ length area → Accepted variables s → v < variables → weight (algebra.slope v s) ≤ largestWeight
+    → let bytes = packed (algebra.slope v s) in slope (packed s) v area ≡ outcome (done (length bytes)) (written bytes area)
+unfolding packedInto
+slope-accepts s v area room accepted known light = all-passed (packed s) v area room (record { accepted = accepted; bytes-are = refl }) known light
+
+-- ---- There are no other outcomes.
+
+module _ (bytes : List ℕ) (byte : (i : ℕ) → getD bytes i 0 < 256) (v : ℕ) (area : List ℕ) where
+  -- what stands behind an answer, and behind an outcome
+  abbrev Behind : Told → List ℕ → Type 0
+  Behind (done n) area' = Sloped bytes v area n area'
+  Behind (refused refusal p) area' = Refuses bytes v area refusal p area'
+
+  abbrev Explains : Outcome (List ℕ) → Type 0
+  Explains o = Behind (o .answer) (o .areas)
+
+  refused-by : {refusal p : ℕ} {area' : List ℕ} → Refuses bytes v area refusal p area' → Explains (slope bytes v area)
+  refused-by d = subst Explains (sym (refuses-slope bytes v area d)) d
+
+  done-by : {s : Sum} → mostBytes variables ≤ length area → PackedSum bytes s → v < variables → weight (algebra.slope v s) ≤ largestWeight → Explains (slope bytes v area)
+  unfolding packedInto
+  done-by {s} room p known light = subst Explains (sym (all-passed bytes v area room p known light)) (record {
+    sum = s;
+    result = algebra.slope v s;
+    room = room;
+    accepted = p .accepted;
+    bytes-are = p .bytes-are;
+    known = known;
+    result-is = refl;
+    result-accepted = slope-accepted v s (p .accepted) light;
+    coefficients-are = λ r long. slope-coefficient v s r (omega (arith, long));
+    many = refl;
+    area-is = refl;
+  })
+
+  explained : Explains (slope bytes v area)
+  explained = go (decLt (length area) (mostBytes variables)) (reading bytes byte)
+    where
+      by-weight : {s : Sum} → mostBytes variables ≤ length area → PackedSum bytes s → v < variables
+          → Dec (largestWeight < weight (algebra.slope v s)) → Explains (slope bytes v area)
+      by-weight room p known (yes above) = refused-by (heavy room p known above)
+      by-weight room p known (no light) = done-by room p known (omega (arith, light))
+
+      by-variable : {s : Sum} → mostBytes variables ≤ length area → PackedSum bytes s → Dec (v < variables) → Explains (slope bytes v area)
+      by-variable {s} room p (yes known) = by-weight room p known (decLt largestWeight (weight (algebra.slope v s)))
+      by-variable room p (no unknown) = refused-by (no-variable room p (omega (arith, unknown)))
+
+      go : Dec (length area < mostBytes variables) → Reading bytes → Explains (slope bytes v area)
+      go (yes short) r = refused-by (no-room short)
+      go (no long) (a-fault place a) = refused-by (at-sum (omega (arith, long)) a)
+      go (no long) (a-sum s p) = by-variable (omega (arith, long)) p (decLt v variables)
+
+  pub slope-means : {n : ℕ} {area' : List ℕ} → slope bytes v area ≡ outcome (done n) area' → Sloped bytes v area n area'
+  slope-means e = subst Explains e explained
+
+  pub slope-refuses : {refusal p : ℕ} {area' : List ℕ} → slope bytes v area ≡ outcome (refused refusal p) area' → Refuses bytes v area refusal p area'
+  slope-refuses e = subst Explains e explained
