@@ -12,6 +12,7 @@ use Rattle.answers.specs.declared.Answer.{Answer}
 use Rattle.answers.specs.declared.Answer.the-variants.{Done, Refused}
 use Rattle.answers.proofs.Outcomes.{One, OneLent, same}
 use Rattle.answers.proofs.Refusal.number.Reads as refusal-number
+use Rattle.answers.proofs.Answer.for_host.Reads as for-host
 use Rattle.answers.proofs.areas.copy_words.Reads as copy-words
 use Rattle.answers.proofs.areas.copy_coefficients.Reads as copy-coefficients
 use Rattle.answers.proofs.areas.clear_words.Reads as clear-words
@@ -63,6 +64,9 @@ outcome-one a b h = (told-one a b (ap (λ (o : Outcome _). o .answer) h), ap (λ
 
 pub number-one : One refusal-number.Learnt
 number-one k a r r' e e' h h' = same h h'
+
+pub for-host-one : One for-host.Learnt
+for-host-one k a r r' e e' h h' = same h h'
 
 pub copy-words-one : OneLent copy-words.Learnt (λ k e. now (e .0))
 copy-words-one k a r r' e e' h h' = (refl, same h h')

@@ -1,5 +1,6 @@
 pub mod Refusals
 pub mod Answers
 pub mod Judge
+pub mod Host
 pub mod Areas
 pub mod Quoted

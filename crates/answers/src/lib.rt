@@ -1,6 +1,10 @@
 // What an operation answers: done with a number, or refused with a place.
 ghost use mathlib.Core.Path.{_≡_};
+ghost use Prim.Native.Nat.{_≤_};
+ghost use lib.Dec.{T};
 ghost use Rattle.answers.specs.Refusals.{number};
+ghost use Rattle.answers.specs.Answers.{told};
+ghost use Rattle.answers.specs.Host.{hostNumber, fitsHost, largestUnit};
 
 pub mod areas;
 
@@ -47,6 +51,20 @@ impl Refusal {
             Refusal::Range => 11,
             Refusal::Text => 12,
             Refusal::Nodes => 13,
+        }
+    }
+}
+
+impl Answer {
+    // The answer as one number for a C host: `unit` is what 1 of a refusal's number counts.
+    pub fn for_host(self, unit: u64) -> u64
+        requires { ⌜ unit ≤ largestUnit ⌝ }
+        requires { ⌜ T (fitsHost unit (told self)) ⌝ }
+        ensures { λ r. ⌜ r ≡ hostNumber unit (told self) ⌝ }
+    {
+        match self {
+            Answer::Done(n) => n as u64,
+            Answer::Refused(refusal, place) => (refusal.number() as u64) * unit + place as u64,
         }
     }
 }
