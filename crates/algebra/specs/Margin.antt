@@ -1,4 +1,4 @@
--- How far the true value of a sum can be from its value at the readings.
+-- A bound on how far the true value of a sum is from its value at the readings.
 use mathlib.Core.List.{List, [], _∷_}
 use Prim.Native.Nat.{ℕ, _+_, _*_, _-_, _^_, _≤_}
 use lib.IntN.{ℤ, natAbs, _-ℤ_}

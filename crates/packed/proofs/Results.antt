@@ -7,12 +7,16 @@ use native.Mathlib.Nat.{zero-add}
 use types.Run.{OneOf}
 use denote.Enum.Declared.{tagOf}
 use lib.IntN.{ℤ}
-use lib.ListN.{length, getD}
+use lib.ListN.{length, getD, length-map}
 use lib.Seq.{sets, sets-eq}
-use Rattle.algebra.specs.Limits.{variables, mostTerms}
+use Rattle.algebra.specs.Limits.{variables, largestDegree, mostTerms}
 use Rattle.algebra.specs.Sum.{Sum}
+use Rattle.algebra.specs.Word.{terms}
 use Rattle.algebra.specs.Accepted.{Accepted}
 use Rattle.algebra.specs.Held.{wordsOf, coefficientsOf, firstTerms}
+use Rattle.algebra.proofs.Sums.Every.{degree-every}
+use Rattle.algebra.proofs.Sums.Ordered.{parts}
+use Rattle.algebra.proofs.Sums.Held.{terms-again}
 use Rattle.answers.specs.Refusals.{SUM, number}
 use Rattle.answers.specs.Answers.{Told, Told.done, Told.refused, told, outcome}
 use Rattle.answers.specs.Areas.{written}
@@ -21,6 +25,7 @@ use Rattle.answers.specs.declared.Answer.{Answer}
 use Rattle.answers.specs.declared.Answer.the-variants.{Done, Refused}
 use Rattle.answers.proofs.Answer.{the-type}
 use Rattle.answers.proofs.Judging.{then-good, then-fails}
+use Rattle.answers.proofs.Writes.{written-front}
 use Rattle.numbers.specs.Item.{Item, Item.got, Item.cut, Item.bad, mapped}
 use Rattle.numbers.specs.Read.{itemOf}
 use Rattle.numbers.specs.declared.Read.{Read}
@@ -78,6 +83,16 @@ unpacks-sum u = record { accepted = u .accepted; bytes-are = u .bytes-are }
 pub unpack-done : {bytes : List ℕ} (ws : List ℕ) (cs : List ℤ) {ws' : List ℕ} {cs' : List ℤ} {count : ℕ} {r : Answer} → ((i : ℕ) → getD bytes i 0 < 256) → r ≡ Done count
     → outcome (told r) (ws', cs') ≡ unpack bytes ws cs → Unpacks bytes ws cs count ws' cs'
 unpack-done ws cs {ws'} {cs'} byte is e = unpack-accepted byte (sym e ∙ ap (λ r. outcome (told r) (ws', cs')) is)
+
+-- the first places of the areas hold the sum
+module _ {bytes ws : List ℕ} {cs : List ℤ} {count : ℕ} {ws' : List ℕ} {cs' : List ℤ} (u : Unpacks bytes ws cs count ws' cs') where
+  pub unpacks-terms : firstTerms count ws' cs' ≡ u .sum
+  unpacks-terms =
+      ap₂ terms (written-front (wordsOf (u .sum)) ws (u .words-are) (length-map (u .sum) _ ∙ u .many) .0) (written-front (coefficientsOf (u .sum)) cs (u .coefficients-are) (length-map (u .sum) _ ∙ u .many) .0)
+      ∙ terms-again (u .sum) (parts variables (u .sum) (u .accepted .isOrdered) .long) (degree-every largestDegree (u .sum) (u .accepted .low))
+
+  pub unpacks-few : count ≤ mostTerms
+  unpacks-few = omega (arith, u .many, u .accepted .few)
 
 -- the refusal that is handed on
 pub record Handed (bytes : List ℕ) (t : Told) : Type 0 where

@@ -1,17 +1,74 @@
--- The margin law: wherever each true number is within its tolerance of its reading, the values differ by at most the margin.
-use mathlib.Core.Path.{_≡_, ap}
-use mathlib.Core.List.{List, [], _∷_}
-use Prim.Native.Nat.{ℕ, zero, suc, _+_, _*_, _^_, _≤_}
+-- Sizes of terms and sums, and the margin law: wherever each true number is within its tolerance of its reading, the values differ by at most the margin.
+use mathlib.Core.Path.{_≡_, refl, _∙_, ap, ap₂}
+use mathlib.Core.List.{List, [], _∷_, _++_}
+use Prim.Native.Nat.{ℕ, zero, suc, _+_, _*_, _^_, _≤_, _<_}
 use native.Mathlib.Omega.{arith}
 use native.Mathlib.Nat.{le-refl, mul-le-mul-left, mul-le-mul-right, mul-le-mul, pow-zero, pow-suc}
 use lib.IntN.{ℤ, pos, natAbs, _+ℤ_, _-ℤ_, _*ℤ_, +ℤ-invr, pow, one}
-use lib.ListN.{length}
-use Rattle.algebra.specs.Pattern.{Pattern}
-use Rattle.algebra.specs.Sum.{Sum}
-use Rattle.algebra.specs.Value.{patternValue, total, value}
+use lib.ListN.{length, getD}
+use Rattle.algebra.specs.Pattern.{Pattern, exponent}
+use Rattle.algebra.specs.Sum.{Term, Sum}
+use Rattle.algebra.specs.Value.{patternValue, termValue, total, value}
 use Rattle.algebra.specs.Margin.{patternSize, size, unsigned, raisedBy, margin, Within, none, more}
-use Rattle.algebra.proofs.Numbers.Absolute.{abs-add, abs-mul}
+use Rattle.algebra.proofs.Numbers.Absolute.{abs-add, abs-mul, abs-pow}
 use Rattle.algebra.proofs.Numbers.Solve.{v, _:+_, _:*_, _:-_, solve, agree}
+
+-- ---- Sizes.
+
+-- the size of a power product is its value without the sign, and so is that of a term
+pub pattern-abs : (p : Pattern) (x : List ℤ) → natAbs (patternValue p x) ≡ patternSize p (unsigned x)
+unfolding patternValue patternSize unsigned
+pattern-abs [] x = refl
+pattern-abs (e ∷ p) [] = refl
+pattern-abs (e ∷ p) (a ∷ x) = abs-mul (pow a e) (patternValue p x) ∙ ap₂ (λ (m n : ℕ). m * n) (abs-pow a e) (pattern-abs p x)
+
+pub term-abs : (t : Term) (x : List ℤ) → natAbs (termValue x t) ≡ natAbs (t .coefficient) * patternSize (t .pattern) (unsigned x)
+term-abs t x =
+    abs-mul (t .coefficient) (patternValue (t .pattern) x) ∙ ap (λ (n : ℕ). natAbs (t .coefficient) * n) (pattern-abs (t .pattern) x)
+
+-- sizes of two sums add up
+pub size-append : (y : List ℕ) (s t : Sum) → size (s ++ t) y ≡ size s y + size t y
+unfolding size
+size-append y [] t = omega arith
+size-append y (u ∷ s) t = omega (arith, size-append y s t)
+
+-- a power product with a power of 0 in it has the size 0, however large its other factors; so a term with a raised reading of 0 in it counts 0
+pub zero-counts : (p : Pattern) (y : List ℕ) (i : ℕ) → i < length y → getD y i 0 ≡ 0 → 0 < exponent i p → patternSize p y ≡ 0
+unfolding patternSize
+zero-counts [] y i h is-zero occurs = absurd (omega arith)
+zero-counts (e ∷ p) [] i h is-zero occurs = absurd (omega arith)
+zero-counts (zero ∷ p) (b ∷ y) zero h is-zero occurs = absurd (omega arith)
+zero-counts (suc e ∷ p) (b ∷ y) zero h is-zero occurs = rw (pow-suc b e, is-zero) (omega arith)
+zero-counts (e ∷ p) (b ∷ y) (suc i) h is-zero occurs = rw (zero-counts p y i (omega arith) is-zero occurs) (omega arith)
+
+pub zero-term : (t : Term) (y : List ℕ) (i : ℕ) → i < length y → getD y i 0 ≡ 0 → 0 < exponent i (t .pattern)
+    → natAbs (t .coefficient) * patternSize (t .pattern) y ≡ 0
+zero-term t y i h is-zero occurs = rw (zero-counts (t .pattern) y i h is-zero occurs) (omega arith)
+
+-- ---- Readings without signs, and raised ones, place by place.
+
+-- without signs there are as many, and raised ones too
+pub unsigned-length : (ts : List ℤ) → length (unsigned ts) ≡ length ts
+unfolding unsigned
+unsigned-length [] = refl
+unsigned-length (t ∷ ts) = ap suc (unsigned-length ts)
+
+pub raised-length : (rs : List ℤ) (ts : List ℕ) → length (raisedBy rs ts) ≡ length rs
+unfolding raisedBy
+raised-length [] ts = refl
+raised-length (r ∷ rs) [] = ap suc (raised-length rs [])
+raised-length (r ∷ rs) (t ∷ ts) = ap suc (raised-length rs ts)
+
+-- each is raised by its own tolerance
+pub raised-at : (rs ts : List ℤ) (i : ℕ) → i < length rs → getD (raisedBy rs (unsigned ts)) i 0 ≡ natAbs (getD rs i (pos 0)) + natAbs (getD ts i (pos 0))
+unfolding raisedBy unsigned
+raised-at [] ts i h = absurd (omega arith)
+raised-at (r ∷ rs) [] zero h = omega arith
+raised-at (r ∷ rs) [] (suc i) h = raised-at rs [] i (omega arith)
+raised-at (r ∷ rs) (t ∷ ts) zero h = refl
+raised-at (r ∷ rs) (t ∷ ts) (suc i) h = raised-at rs ts i (omega arith)
+
+-- ---- Near numbers.
 
 -- A is near B: |B| is at most a, and |A − B| at most b − a. Sums, products and powers of near numbers are near.
 record Near (A B : ℤ) (a b : ℕ) : Type 0 where
@@ -21,7 +78,8 @@ record Near (A B : ℤ) (a b : ℕ) : Type 0 where
 near-self : (c : ℤ) → Near c c (natAbs c) (natAbs c)
 near-self c = record { apart = rw (+ℤ-invr c) (omega arith); small = le-refl (natAbs c) }
 
-sum-apart : (A B A' B' : ℤ) → (A +ℤ A') -ℤ (B +ℤ B') ≡ (A -ℤ B) +ℤ (A' -ℤ B')
+-- the difference of two sums is the sum of the differences
+pub sum-apart : (A B A' B' : ℤ) → (A +ℤ A') -ℤ (B +ℤ B') ≡ (A -ℤ B) +ℤ (A' -ℤ B')
 unfolding agree
 sum-apart A B A' B' = solve ((v 0 :+ v 2) :- (v 1 :+ v 3)) ((v 0 :- v 1) :+ (v 2 :- v 3)) (A ∷ B ∷ A' ∷ B' ∷ []) tt
 
@@ -72,6 +130,8 @@ near-value : (s : Sum) {x r : List ℤ} {t : List ℕ} → Within x r t → Near
 unfolding value total size
 near-value [] w = near-self (pos 0)
 near-value (u ∷ s) w = near-sum (near-product (near-self (u .coefficient)) (near-pattern (u .pattern) w)) (near-value s w)
+
+-- ---- The law.
 
 -- each reading is within any tolerance of itself
 pub within-self : (r : List ℤ) (t : List ℕ) → length r ≡ length t → Within r r t
