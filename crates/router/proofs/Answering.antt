@@ -1,0 +1,97 @@
+-- What the code of the estimate knows at its exits.
+use mathlib.Core.Path.{_≡_, refl, sym, _∙_, ap, ap₂}
+use mathlib.Core.List.{List, [], _∷_, _++_}
+use Prim.Native.Nat.{ℕ, _+_, _-_, _≤_, _<_}
+use native.Mathlib.Omega.{arith}
+use types.Run.{OneOf}
+use denote.Enum.Declared.{tagOf}
+use lib.IntN.{ℤ, pos, _-ℤ_}
+use lib.ListN.{length, drop, length-append}
+use lib.Seq.{sets, sets-eq}
+use Rattle.algebra.specs.Limits.{variables, largestWeight}
+use Rattle.algebra.specs.Sum.{Sum}
+use Rattle.algebra.specs.Value.{value}
+use Rattle.algebra.specs.Margin.{size, unsigned, raisedBy, margin}
+use Rattle.algebra.proofs.Sums.Margins.{unsigned-length}
+use Rattle.answers.specs.Refusals.{RANGE}
+use Rattle.answers.specs.Judge.{Judged.good, Judged.fails}
+use Rattle.answers.specs.Areas.{written}
+use Rattle.packed.proofs.Writing.{sets-append}
+use Rattle.router.specs.Bytes.{numberBytes, signedBytes}
+use Rattle.router.specs.Readings.{numbersOf, beforeNegative, measured}
+use Rattle.router.specs.Parts.{Keeps}
+use Rattle.router.specs.Estimate.{judgeRange, answerBytes, answerOf}
+use Rattle.router.specs.Found.{foundOf}
+use Rattle.router.specs.declared.Found.{Found}
+use Rattle.router.specs.declared.Found.the-variants.{Within, Beyond}
+use Rattle.router.proofs.Found.{the-type}
+use Rattle.router.proofs.Complement.{bytes-length}
+use Rattle.router.proofs.Numbering.{numbers-length}
+use Rattle.router.proofs.Tolerances.{FirstNegative, at-most, first-negative, allowed-are}
+use Rattle.router.proofs.PartsLaws.{value-parts, size-parts}
+use Rattle.router.proofs.Kept.{Exact, kept-within, kept-beyond}
+use Rattle.router.proofs.Estimating.{Long, Given, range-beyond, range-within}
+
+-- ---- Readings and tolerances, read into arrays.
+
+module _ {readings tolerances : List ℕ} {rs ts : List ℤ} {good : ℕ} (l : Long readings tolerances) (rs-are : rs ≡ numbersOf readings) (ts-are : ts ≡ numbersOf tolerances) (good-is : good ≡ beforeNegative ts) where
+  many : length ts ≡ variables
+  many = ap length ts-are ∙ numbers-length variables tolerances (l .tolerances-long)
+
+  pub stops : good < variables → FirstNegative (numbersOf tolerances) good
+  stops h = rw (good-is, ts-are) (first-negative (numbersOf tolerances) (omega (arith, many, good-is, ap length ts-are, ap beforeNegative ts-are)))
+
+  pub passes : variables ≤ good → beforeNegative ts ≡ length ts
+  passes h = omega (arith, at-most ts, good-is, many)
+
+  pub are-given : variables ≤ good → Given readings tolerances rs (unsigned ts)
+  are-given h = record { long = l; readings-are = sym rs-are; tolerances-are = sym ts-are ∙ allowed-are ts (passes h) }
+
+-- ---- The sum, taken apart.
+
+module _ {s : Sum} {rs : List ℤ} (ts : List ℤ) {raised : List ℕ} {r a b : ℕ} (kept : Keeps r a b s rs raised) (raised-is : raised ≡ raisedBy rs (unsigned ts)) where
+  pub beyond : largestWeight < r → judgeRange s (measured rs ts) ≡ fails RANGE 0
+  beyond far = range-beyond s rs (unsigned ts) (rw raised-is at (kept-beyond kept far))
+
+  module _ (long : length rs ≡ length ts) (near : r ≤ largestWeight) where
+    pub exact : Exact r a b s rs raised
+    exact = kept-within kept (unsigned ts) (long ∙ sym (unsigned-length ts)) raised-is near
+
+    value-is : value s rs ≡ pos a -ℤ pos b
+    value-is = value-parts s rs ∙ ap₂ (λ (m n : ℕ). pos m -ℤ pos n) (sym (exact .above-is)) (sym (exact .below-is))
+
+    margin-is : margin s rs (unsigned ts) ≡ r - (a + b)
+    unfolding margin
+    margin-is =
+        ap₂ (λ (m n : ℕ). m - n) (ap (size s) (sym raised-is) ∙ sym (exact .raised-is)) (size-parts s rs ∙ ap₂ (λ (m n : ℕ). m + n) (sym (exact .above-is)) (sym (exact .below-is)))
+
+    pub within : {z : ℤ} → z ≡ pos a -ℤ pos b → judgeRange s (measured rs ts) ≡ good (record { estimate = z; margin = r - (a + b) })
+    within z-is =
+        let near' : size s (raisedBy rs (unsigned ts)) ≤ largestWeight = omega (arith, near, exact .raised-is, ap (size s) raised-is) in
+        range-within s rs (unsigned ts) near'
+        ∙ ap₂ (λ (e : ℤ) (m : ℕ). good (record { estimate = e; margin = m })) (value-is ∙ sym z-is) margin-is
+
+-- ---- What was found.
+
+pub not-within : (f : Found) → OneOf (1 ∷ []) (tagOf the-type f) → foundOf f ≡ fails RANGE 0
+not-within (Within e m) key = absurd (omega arith)
+not-within Beyond key = refl
+
+-- ---- Both numbers are written, one after the other.
+
+both-written : (xs ys area : List ℕ) → length xs + length ys ≤ length area → sets (sets area 0 xs) (length xs) ys ≡ written (xs ++ ys) area
+both-written xs ys area room =
+    let all = xs ++ ys in
+    let from : length xs ≡ 0 + length xs = omega arith in
+    let to : 0 + length all ≡ length all = omega arith in
+    ap (λ (k : ℕ). sets (sets area 0 xs) k ys) from ∙ sets-append area 0 xs ys ∙ sets-eq all area 0 (omega (arith, length-append xs ys))
+    ∙ ap (λ (k : ℕ). all ++ drop k area) to
+
+pub answer-written : {x y e : ℤ} {m : ℕ} (area : List ℕ) {area₁ area₂ : List ℕ} → answerBytes ≤ length area → x ≡ e → y ≡ pos m → area₁ ≡ sets area 0 (signedBytes numberBytes x)
+    → area₂ ≡ sets area₁ numberBytes (signedBytes numberBytes y) → area₂ ≡ written (answerOf e m) area
+answer-written {x} {y} area room x-is y-is first second =
+    let long-x = bytes-length numberBytes x in
+    let long-y = bytes-length numberBytes y in
+    second ∙ ap (λ l. sets l numberBytes (signedBytes numberBytes y)) first ∙ ap (λ (k : ℕ). sets (sets area 0 (signedBytes numberBytes x)) k (signedBytes numberBytes y)) (sym long-x)
+    ∙ both-written (signedBytes numberBytes x) (signedBytes numberBytes y) area (omega (arith, long-x, long-y, room))
+    ∙ ap₂ (λ v w. written (signedBytes numberBytes v ++ signedBytes numberBytes w) area) x-is y-is

@@ -1,0 +1,157 @@
+-- Cases of document 01 about the estimate, and some beside them: one table, which the checker computes.
+use mathlib.Core.Path.{_≡_, refl}
+use mathlib.Core.Bool.{Bool, true, false, _&&_}
+use mathlib.Core.List.{List, [], _∷_, _++_}
+use Prim.Native.Nat.{ℕ, _-_, _*_, _^_}
+use lib.Dec.{leb}
+use lib.IntN.{ℤ, pos, negsuc, natAbs, one, pow, _+ℤ_, _-ℤ_}
+use lib.ListN.{length, replicate}
+use Rattle.algebra.specs.Limits.{variables, largestWeight}
+use Rattle.algebra.specs.Pattern.{degree, thenBy, byPowers, order}
+use Rattle.algebra.specs.Sum.{Sum, weight}
+use Rattle.algebra.specs.Value.{total, patternValue, value}
+use Rattle.algebra.specs.Margin.{patternSize, size, unsigned, raisedBy, margin}
+use Rattle.answers.specs.Refusals.{SUM, READING, RANGE}
+use Rattle.answers.specs.Host.{hosted}
+use Rattle.answers.specs.Judge.{Judged, Judged.good, Judged.fails, holding, andThen}
+use Rattle.answers.proofs.Tables.{Each, _also_}
+use Rattle.numbers.specs.Item as item
+use Rattle.numbers.specs.Number.{readByte, readGroups, readNumber}
+use Rattle.numbers.specs.Code.{decode}
+use Rattle.packed.specs.Judge.{weighs, follows}
+use Rattle.packed.specs.ReadSum.{readCoefficient, readExponents, readTerm, readTerms, readSum, readWhole}
+use Rattle.packed.specs.Whole.{judged}
+use Rattle.router.specs.Bytes.{plainNumber, signedNumber, plainBytes, signedBytes}
+use Rattle.router.specs.Readings.{numbersOf, spelled, beforeNegative, judgeReadings}
+use Rattle.router.specs.Estimate.{Estimate, judgeRange, judgeTerms, judgeEstimate, answerInto, estimate, hostUnit}
+
+-- ---- A case is about packed bytes, readings and tolerances.
+
+-- numbers of the first letters; the others are 0
+abbrev pub filled : List ℤ → List ℤ
+filled ns = ns ++ replicate (variables - length ns) (pos 0)
+
+abbrev pub eight : List ℤ → List ℕ
+eight ns = spelled (filled ns)
+
+pub data Case : Type 0 where
+  -- the estimate and its margin, or the refusal and its place
+  gives : List ℕ → List ℤ → List ℤ → Judged (ℤ × ℕ) → Case
+  -- the same, for readings and tolerances in bytes
+  takes : List ℕ → List ℕ → List ℕ → Judged (ℤ × ℕ) → Case
+  -- what is left in an area, and what a C host gets
+  leaves : List ℕ → List ℤ → List ℤ → List ℕ → List ℕ → ℕ → Case
+  -- true numbers within the tolerances, and the value there, which is the estimate and the margin together
+  reaches : List ℕ → List ℤ → List ℤ → List ℤ → ℤ → Case
+
+abbrev pub numbersIn : Judged Estimate → Judged (ℤ × ℕ)
+numbersIn (good e) = good (e .estimate, e .margin)
+numbersIn (fails refusal place) = fails refusal place
+
+abbrev pub together : Judged Estimate → Judged ℤ
+together (good e) = good (e .estimate +ℤ pos (e .margin))
+together (fails refusal place) = fails refusal place
+
+abbrev pub valueAt : Judged Sum → List ℤ → Judged ℤ
+valueAt (good s) x = good (value s x)
+valueAt (fails refusal place) x = fails refusal place
+
+abbrev pub isWithin : List ℤ → List ℤ → List ℕ → Bool
+isWithin [] rs ts = true
+isWithin (x ∷ xs) [] ts = false
+isWithin (x ∷ xs) (r ∷ rs) [] = false
+isWithin (x ∷ xs) (r ∷ rs) (t ∷ ts) = leb (natAbs (x -ℤ r)) t && isWithin xs rs ts
+
+abbrev pub Says : Case → Type 0
+Says (gives bytes rs ts said) = numbersIn (judgeEstimate bytes (eight rs) (eight ts)) ≡ said
+Says (takes bytes readings tolerances said) = numbersIn (judgeEstimate bytes readings tolerances) ≡ said
+Says (leaves bytes rs ts area area' number) = hosted hostUnit (estimate bytes (eight rs) (eight ts) area) ≡ (number, area')
+Says (reaches bytes rs ts xs n) =
+    (isWithin (filled xs) (filled rs) (unsigned (filled ts)) ≡ true)
+    × ((valueAt (judged SUM (readWhole variables bytes)) (filled xs) ≡ good n) × (together (judgeEstimate bytes (eight rs) (eight ts)) ≡ good n))
+
+-- ---- Short names. A coefficient stands as its code: 2n for n from 0 up, and −2n − 1 for n below.
+
+-- one term with powers of a and b
+two : ℕ → ℕ → ℕ → List ℕ
+two c p q = c ∷ p ∷ q ∷ replicate 6 0
+
+-- (a+b)^2-b^2, which is a² + 2ab
+square : List ℕ
+unfolding two
+square = 2 ∷ two 2 2 0 ++ two 4 1 1
+
+-- the number 5 of places
+fives : ℕ → List ℕ
+fives n = replicate n 5
+
+-- 2^32·a²; and with 1 added
+large : List ℕ
+large = 128 ∷ 128 ∷ 128 ∷ 128 ∷ 32 ∷ 2 ∷ replicate 7 0
+
+-- the code of 2^62, of −2^62
+heaviest : List ℕ
+heaviest = replicate 9 128 ++ (1 ∷ [])
+
+lowest : List ℕ
+lowest = 255 ∷ replicate 7 255 ++ (127 ∷ [])
+
+a : ℤ → List ℤ
+a n = n ∷ []
+
+ab : ℤ → ℤ → List ℤ
+ab m n = m ∷ n ∷ []
+
+-- ---- The table.
+
+pub table : List Case
+unfolding two square fives large heaviest lowest a ab
+table =
+    -- a = 10 and b = 3, within 1 and 2: estimate 160, margin 71, reached at 11 and 5
+    gives square (ab (pos 10) (pos 3)) (ab (pos 1) (pos 2)) (good (pos 160, 71))
+    ∷ reaches square (ab (pos 10) (pos 3)) (ab (pos 1) (pos 2)) (ab (pos 11) (pos 5)) (pos 231)
+    ∷ leaves square (ab (pos 10) (pos 3)) (ab (pos 1) (pos 2)) (fives 18) (160 ∷ replicate 7 0 ++ (71 ∷ replicate 7 0) ++ fives 2) 16
+    -- a² at −3, within 1
+    ∷ gives (1 ∷ two 2 2 0) (a (negsuc 2)) (a (pos 1)) (good (pos 9, 7))
+    ∷ reaches (1 ∷ two 2 2 0) (a (negsuc 2)) (a (pos 1)) (a (negsuc 3)) (pos 16)
+    -- a² − 2a at 1, within 1: signs are dropped, so the margin is 5 although no truth is further off than 1
+    ∷ gives (2 ∷ two 2 2 0 ++ two 3 1 0) (a (pos 1)) (a (pos 1)) (good (negsuc 0, 5))
+    -- 2^32·a² at 32767, within 1, is raised to 2^62; with 1 more it is refused
+    ∷ gives (1 ∷ large) (a (pos 32767)) (a (pos 1)) (good (pos (2 ^ 32 * 32767 ^ 2), 2 ^ 62 - 2 ^ 32 * 32767 ^ 2))
+    ∷ gives (2 ∷ large ++ two 2 0 0) (a (pos 32767)) (a (pos 1)) (fails RANGE 0)
+    -- a^59·b, and a·b^59: a large power counts nothing beside a reading that is 0 for sure, and too much where that may be 1
+    ∷ gives (1 ∷ two 2 59 1) (ab (pos 32767) (pos 0)) (ab (pos 32767) (pos 0)) (good (pos 0, 0))
+    ∷ gives (1 ∷ two 2 1 59) (ab (pos 0) (pos 32767)) (ab (pos 0) (pos 1)) (good (pos 0, 0))
+    ∷ gives (1 ∷ two 2 59 1) (ab (pos 32767) (pos 0)) (ab (pos 0) (pos 1)) (fails RANGE 0)
+    -- ±2^62 alone; and the lowest reading, raised to 65535
+    ∷ gives (1 ∷ heaviest ++ replicate 8 0) [] [] (good (pos largestWeight, 0))
+    ∷ gives (1 ∷ lowest ++ replicate 8 0) [] [] (good (negsuc (largestWeight - 1), 0))
+    ∷ gives (1 ∷ two 2 1 0) (a (negsuc 32767)) (a (pos 32767)) (good (negsuc 32767, 32767))
+    -- −5, in two's complement; the zero sum
+    ∷ leaves (1 ∷ two 1 1 0) (a (pos 5)) (a (pos 2)) (fives 16) (251 ∷ replicate 7 255 ++ (2 ∷ replicate 7 0)) 16
+    ∷ gives (0 ∷ []) (a (negsuc 32767)) (a (pos 32767)) (good (pos 0, 0))
+    -- the first negative tolerance, also of a letter that is not in the sum; 0 is none
+    ∷ gives square [] (pos 0 ∷ pos 4 ∷ negsuc 0 ∷ pos 0 ∷ negsuc 32767 ∷ []) (fails READING 2)
+    ∷ leaves square [] (replicate 7 (pos 0) ++ (negsuc 0 ∷ [])) (fives 16) (fives 16) 655367
+    -- a length that is not 16 comes before that; and the sum before both
+    ∷ takes square (replicate 15 0) (replicate 16 255) (fails READING 0)
+    ∷ takes square (replicate 16 0) (replicate 17 255) (fails READING 0)
+    ∷ takes square (replicate 16 0) [] (fails READING 0)
+    ∷ takes (square ++ (0 ∷ [])) (replicate 15 0) [] (fails SUM 19)
+    -- READING before RANGE
+    ∷ gives (1 ∷ two 2 60 0) (a (pos 2000)) (pos 0 ∷ negsuc 0 ∷ []) (fails READING 1)
+    -- an area of 15 bytes comes before all; on refusal the area stays
+    ∷ leaves (1 ∷ []) [] (a (negsuc 0)) (fives 15) (fives 15) 65536
+    ∷ leaves (1 ∷ []) [] (a (negsuc 0)) (fives 16) (fives 16) 458753
+    ∷ leaves (1 ∷ two 2 60 0) (a (pos 2000)) [] (fives 16) (fives 16) 720896
+    ∷ []
+
+pub cases-hold : Each Says table
+unfolding table spelled two square fives large heaviest lowest a ab degree thenBy byPowers order weight total patternValue value patternSize size unsigned raisedBy margin pow one holding andThen item.andThen item.provided item.mapped readByte readGroups readNumber decode weighs follows readCoefficient readExponents readTerm readTerms readSum readWhole plainNumber signedNumber plainBytes signedBytes numbersOf beforeNegative judgeReadings judgeRange judgeTerms judgeEstimate answerInto estimate
+cases-hold =
+    refl also (refl, (refl, refl)) also refl also refl also (refl, (refl, refl))
+    also refl also refl also refl also refl also refl
+    also refl also refl also refl also refl also refl
+    also refl also refl also refl also refl also refl
+    also refl also refl also refl also refl also refl
+    also refl also tt

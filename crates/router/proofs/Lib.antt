@@ -1,0 +1,19 @@
+-- The laws that other crates cite; the proofs of the functions stand beside them, a folder each.
+pub mod Complement
+pub mod TwoBytes
+pub mod Filled
+pub mod Numbering
+pub mod Tolerances
+pub mod Passing
+pub mod Raising
+pub mod PartsLaws
+pub mod Kept
+pub mod Turning
+pub mod TermParts
+pub mod SumParts
+pub mod Estimating
+pub mod Answering
+pub mod ForHost
+pub mod Answered
+pub mod Unique
+pub mod Cases

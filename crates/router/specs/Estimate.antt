@@ -1,0 +1,64 @@
+-- Estimate: ROOM, SUM, READING, RANGE. Done, the first 16 bytes of the answer area are the estimate and then its margin, and the rest stay.
+use mathlib.Core.List.{List, _++_}
+use Prim.Native.Nat.{ℕ, _+_}
+use lib.Dec.{leb}
+use lib.IntN.{ℤ, pos}
+use lib.ListN.{length, take, drop}
+use Rattle.algebra.specs.Limits.{variables, largestWeight}
+use Rattle.algebra.specs.Sum.{Sum}
+use Rattle.algebra.specs.Value.{value}
+use Rattle.algebra.specs.Margin.{size, raisedBy, margin}
+use Rattle.answers.specs.Refusals.{ROOM, SUM, RANGE}
+use Rattle.answers.specs.Answers.{Told.done, Told.refused, Outcome, outcome, check}
+use Rattle.answers.specs.Areas.{written}
+use Rattle.answers.specs.Judge.{Judged, Judged.good, Judged.fails, holding, andThen}
+use Rattle.packed.specs.ReadSum.{readWhole}
+use Rattle.packed.specs.Whole.{judged}
+use Rattle.router.specs.Bytes.{numberBytes, signedNumber, signedBytes}
+use Rattle.router.specs.Readings.{Readings, judgeReadings}
+
+-- the value at the readings, and a bound on how far the true value is from it
+pub record Estimate : Type 0 where
+  pub estimate : ℤ
+  pub margin : ℕ
+
+-- refused if the raised value is above 2^62
+unfoldable pub judgeRange : Sum → Readings → Judged Estimate
+judgeRange s r =
+    holding (leb (size s (raisedBy (r .readings) (r .tolerances))) largestWeight) RANGE 0
+    (good (record { estimate = value s (r .readings); margin = margin s (r .readings) (r .tolerances) }))
+
+unfoldable pub judgeTerms : Sum → List ℕ → List ℕ → Judged Estimate
+judgeTerms s readings tolerances = andThen (judgeReadings readings tolerances) (judgeRange s)
+
+unfoldable pub judgeEstimate : List ℕ → List ℕ → List ℕ → Judged Estimate
+judgeEstimate bytes readings tolerances = andThen (judged SUM (readWhole variables bytes)) (λ s. judgeTerms s readings tolerances)
+
+abbrev pub answerBytes : ℕ
+answerBytes = numberBytes + numberBytes
+
+-- the estimate, and then the margin
+abbrev pub answerOf : ℤ → ℕ → List ℕ
+answerOf e m = signedBytes numberBytes e ++ signedBytes numberBytes (pos m)
+
+-- on refusal the area stays
+unfoldable pub answerInto : Judged Estimate → List ℕ → Outcome (List ℕ)
+answerInto (good e) area = outcome (done answerBytes) (written (answerOf (e .estimate) (e .margin)) area)
+answerInto (fails refusal place) area = outcome (refused refusal place) area
+
+unfoldable pub estimate : List ℕ → List ℕ → List ℕ → List ℕ → Outcome (List ℕ)
+estimate bytes readings tolerances area =
+    check (leb answerBytes (length area)) ROOM 0 area
+    (answerInto (judgeEstimate bytes readings tolerances) area)
+
+-- a C host gets refusal × 65,536 + place
+abbrev pub hostUnit : ℕ
+hostUnit = 65536
+
+-- ---- An answer, read: the first eight bytes, and the next eight.
+
+abbrev pub estimateIn : List ℕ → ℤ
+estimateIn answer = signedNumber (take numberBytes answer)
+
+abbrev pub marginIn : List ℕ → ℤ
+marginIn answer = signedNumber (take numberBytes (drop numberBytes answer))

@@ -1,0 +1,5 @@
+pub mod Bytes
+pub mod Parts
+pub mod Readings
+pub mod Estimate
+pub mod Found
