@@ -1,0 +1,5 @@
+-- Theorems across the operations.
+pub mod Becoming
+pub mod Margins
+pub mod FromTexts
+pub mod Cases

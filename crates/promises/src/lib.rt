@@ -1,0 +1,1 @@
+// Theorems across the operations stand in proofs/: there is no code here.
