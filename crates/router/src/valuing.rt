@@ -11,7 +11,7 @@ ghost use Rattle.algebra.specs.Sum.{term};
 ghost use Rattle.algebra.specs.Word.{exponents, terms};
 ghost use Rattle.router.specs.Parts.{Keeps, Turns};
 
-// What a term, or a sum of terms, comes to: at most its raised value; what is above 0 of its value at the readings, and what is below.
+// What a term, or a sum of terms, comes to: its raised value, the most that it can be; what is above 0 of its value at the readings, and what is below.
 pub struct Parts {
     pub most: u64,
     pub above: u64,
