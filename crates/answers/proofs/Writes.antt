@@ -1,10 +1,10 @@
 -- An area that is written place by place, from the front.
 use mathlib.Core.Path.{_≡_, refl, sym, _∙_, ap}
-use mathlib.Core.List.{List, [], _∷_, _++_}
-use Prim.Native.Nat.{ℕ, suc, _+_, _≤_, _<_}
+use mathlib.Core.List.{List, [], _∷_, _++_, append-nil}
+use Prim.Native.Nat.{ℕ, suc, _≤_, _<_}
 use native.Mathlib.Omega.{arith}
-use lib.ListN.{length, getD, take, drop, set, length-append}
-use lib.Seq.{set-at, take-at, drop-cons, append-snoc}
+use lib.ListN.{length, getD, take, drop, set, length-append, drop-of-length-le}
+use lib.Seq.{set-at, take-at, take-all, drop-cons, append-snoc}
 use Rattle.answers.specs.Areas.{written}
 
 module _ {A : Type 0} where
@@ -25,3 +25,10 @@ module _ {A : Type 0} where
   written-front values area {area'} {count} are many =
       let rest = drop (length values) area in
       (ap (take count) are ∙ take-at values rest count many, omega (arith, ap length are, length-append values rest))
+
+  -- an area that is written as a whole holds the values alone
+  pub written-all : (values area : List A) → length values ≡ length area → written (take (length area) values) area ≡ values
+  written-all values area many =
+      let all = take-all (length area) values (omega (arith, many)) in
+      let over : length area ≤ length values = omega (arith, many) in
+      ap (λ l. written l area) all ∙ ap (λ l. values ++ l) (drop-of-length-le area over) ∙ append-nil values

@@ -1,5 +1,5 @@
 -- What the operations answer, as the sum that is listed or the refusal.
-use mathlib.Core.Path.{_≡_, refl, sym, _∙_, ap, ap₂}
+use mathlib.Core.Path.{_≡_, refl, sym, _∙_, ap}
 use mathlib.Core.Bool.{Bool, true, false}
 use mathlib.Core.List.{List}
 use Prim.Native.Nat.{ℕ, _*_, _%_, _≤_}
@@ -8,13 +8,9 @@ use lib.Dec.{leb}
 use lib.IntN.{ℤ, pos}
 use lib.ListN.{length, take, drop, length-map, length-append}
 use borrow.Author.Tests.{le-leb}
-use Rattle.algebra.specs.Limits.{variables, largestDegree, mostTerms, workPlaces}
+use Rattle.algebra.specs.Limits.{variables, mostTerms, workPlaces}
 use Rattle.algebra.specs.Sum.{Sum}
-use Rattle.algebra.specs.Word.{terms}
 use Rattle.algebra.specs.Held.{wordsOf, coefficientsOf, firstTerms}
-use Rattle.algebra.proofs.Sums.Every.{degree-every}
-use Rattle.algebra.proofs.Sums.Held.{terms-again}
-use Rattle.algebra.proofs.Sums.Ordered.{parts}
 use Rattle.answers.specs.Refusals.{ROOM, number}
 use Rattle.answers.specs.Answers.{Told, Told.done, Told.refused, told, Outcome, outcome, check}
 use Rattle.answers.specs.Areas.{written, cleared}
@@ -27,6 +23,7 @@ use Rattle.packed.specs.Packed.{packed}
 use Rattle.packed.specs.Result.{Areas, packedInto, beside}
 use Rattle.packed.proofs.Working.{Room, with-room}
 use Rattle.packed.proofs.Inverse.{unpack-accepts}
+use Rattle.packed.proofs.Results.{written-terms}
 use Rattle.answers.specs.Judge.{Judged, Judged.good, Judged.fails, andThen}
 use Rattle.nodes.specs.Node.{tableOf}
 use Rattle.formula.specs.Table.{Entry, judgeTable, isShape}
@@ -36,12 +33,12 @@ use Rattle.formula.proofs.Passing.{table-length, AllPass, judge-says, shape-jud
 use Rattle.formula.proofs.Simplifying.{shape-says}
 use Rattle.text.specs.Limits.{tablePlaces}
 use Rattle.text.specs.Tree.{Tree, nodesOf}
-use Rattle.text.specs.Text.{judgeText, tableInto, readFormula}
+use Rattle.text.specs.Text.{judgeText, tableInto, readFormula, textSum}
 use Rattle.answers.proofs.Judging.{good-fails}
 use Rattle.text.proofs.Trees.{nodes-length}
 use Rattle.listing.specs.Bytes.{Packs}
 use Rattle.listing.specs.Lines.{mostLines, sumLines, refusalLine}
-use Rattle.listing.specs.Listing.{textSum, listed, withoutNewline, list}
+use Rattle.listing.specs.Listing.{listed, withoutNewline, list}
 
 -- ---- Answers.
 
@@ -75,7 +72,6 @@ module _ (bytes ws : List ℕ) (cs : List ℤ) (words-room : mostTerms ≤ lengt
       ∙ unpack-accepts s ws cs (p .accepted) words-room coefficients-room
 
   pub unpacked : {count : ℕ} → a ≡ Done count → Terms s count ws' cs'
-  unfolding terms
   unpacked d =
       let f = gives (ap told d) in
       let many = sym (done-same f) in
@@ -84,8 +80,7 @@ module _ (bytes ws : List ℕ) (cs : List ℤ) (words-room : mostTerms ≤ lengt
       record {
         words = words .1;
         coefficients = coefficients .1;
-        terms-are = ap₂ terms (words .0) (coefficients .0)
-            ∙ terms-again s (parts variables s (p .accepted .isOrdered) .long) (degree-every largestDegree s (p .accepted .low));
+        terms-are = written-terms ws cs (p .accepted) (ap (λ (x : List ℕ × List ℤ). x .0) (areas-same f)) (ap (λ (x : List ℕ × List ℤ). x .1) (areas-same f)) many;
       }
 
   pub never-refused : {refusal : Refusal} {place : ℕ} → a ≡ Refused refusal place → ⊥

@@ -10,9 +10,9 @@ use lib.Seq.{take-all, length-take-le}
 use Rattle.answers.specs.Refusals.{TEXT}
 use Rattle.answers.specs.Judge.{Judged.fails, holding, andThen}
 use Rattle.text.specs.Limits.{longestText}
-use Rattle.text.specs.Text.{judgeText}
+use Rattle.text.specs.Text.{judgeText, textSum}
 use Rattle.text.proofs.Byte.{decide}
-use Rattle.listing.specs.Listing.{textSum, withoutNewline, mostInput, list}
+use Rattle.listing.specs.Listing.{withoutNewline, mostInput, list}
 use Rattle.listing.proofs.Newline.{front}
 
 too-long : (text : List ℕ) → longestText < length text → textSum text ≡ fails TEXT longestText

@@ -24,11 +24,10 @@ use Rattle.text.specs.Limits.{longestText}
 use Rattle.text.specs.Tree.{Tree, size, nodesOf, treeValue}
 use Rattle.text.specs.Grammar.{Formula}
 use Rattle.text.specs.Reader.{readWhole}
-use Rattle.text.specs.Text.{judgeText}
+use Rattle.text.specs.Text.{judgeText, textSum}
 use Rattle.text.proofs.Fitting.{TooMuch, Passable, formula-passable}
 use Rattle.text.proofs.Formulas.{formula-read, stops-longest}
 use Rattle.text.proofs.Meaning.{tree-value}
-use Rattle.listing.specs.Listing.{textSum}
 use Rattle.listing.proofs.Answered.{judged-passes}
 
 -- ---- The text.

@@ -9,17 +9,10 @@ use Rattle.algebra.specs.Sum.{Sum}
 use Rattle.answers.specs.Refusals.{ROOM}
 use Rattle.answers.specs.Answers.{Told.done, Outcome, outcome, check}
 use Rattle.answers.specs.Areas.{written}
-use Rattle.answers.specs.Judge.{Judged, Judged.good, Judged.fails, andThen}
-use Rattle.nodes.specs.Node.{tableOf}
-use Rattle.formula.specs.Simplify.{tableSum}
+use Rattle.answers.specs.Judge.{Judged, Judged.good, Judged.fails}
 use Rattle.text.specs.Limits.{longestText}
-use Rattle.text.specs.Tree.{nodesOf}
-use Rattle.text.specs.Text.{judgeText}
+use Rattle.text.specs.Text.{textSum}
 use Rattle.listing.specs.Lines.{newline, mostLines, sumLines, refusalLine}
-
--- the sum of a text, or the first refusal on the way
-unfoldable pub textSum : List ℕ → Judged Sum
-textSum text = andThen (judgeText text) (λ t. tableSum (tableOf (nodesOf 0 t)))
 
 -- ---- What is printed.
 

@@ -11,10 +11,11 @@ ghost use Rattle.algebra.specs.Limits.{variables};
 ghost use Rattle.answers.specs.Answers.{told, outcome};
 ghost use Rattle.answers.specs.Areas.{written};
 ghost use Rattle.algebra.specs.Sum.{Sum};
+ghost use Rattle.text.specs.Text.{textSum};
 ghost use Rattle.listing.specs.Lines.{mostLines, sumLines};
 ghost use Rattle.listing.specs.Bytes.{Packs, Packed};
 ghost use Rattle.formula.specs.Simplify.{tableSum};
-ghost use Rattle.listing.specs.Listing.{textSum, listed, withoutNewline, mostInput, list};
+ghost use Rattle.listing.specs.Listing.{listed, withoutNewline, mostInput, list};
 
 mod decimal;
 mod lines;

@@ -84,12 +84,16 @@ pub unpack-done : {bytes : List ℕ} (ws : List ℕ) (cs : List ℤ) {ws' : List
     → outcome (told r) (ws', cs') ≡ unpack bytes ws cs → Unpacks bytes ws cs count ws' cs'
 unpack-done ws cs {ws'} {cs'} byte is e = unpack-accepted byte (sym e ∙ ap (λ r. outcome (told r) (ws', cs')) is)
 
--- the first places of the areas hold the sum
+-- the first places of two areas, to which the words and coefficients of an accepted sum were written, hold the sum
+pub written-terms : {s : Sum} (ws : List ℕ) (cs : List ℤ) {ws' : List ℕ} {cs' : List ℤ} {count : ℕ} → Accepted variables s → ws' ≡ written (wordsOf s) ws → cs' ≡ written (coefficientsOf s) cs
+    → length s ≡ count → firstTerms count ws' cs' ≡ s
+written-terms {s} ws cs accepted words coefficients many =
+    ap₂ terms (written-front (wordsOf s) ws words (length-map s _ ∙ many) .0) (written-front (coefficientsOf s) cs coefficients (length-map s _ ∙ many) .0)
+    ∙ terms-again s (parts variables s (accepted .isOrdered) .long) (degree-every largestDegree s (accepted .low))
+
 module _ {bytes ws : List ℕ} {cs : List ℤ} {count : ℕ} {ws' : List ℕ} {cs' : List ℤ} (u : Unpacks bytes ws cs count ws' cs') where
   pub unpacks-terms : firstTerms count ws' cs' ≡ u .sum
-  unpacks-terms =
-      ap₂ terms (written-front (wordsOf (u .sum)) ws (u .words-are) (length-map (u .sum) _ ∙ u .many) .0) (written-front (coefficientsOf (u .sum)) cs (u .coefficients-are) (length-map (u .sum) _ ∙ u .many) .0)
-      ∙ terms-again (u .sum) (parts variables (u .sum) (u .accepted .isOrdered) .long) (degree-every largestDegree (u .sum) (u .accepted .low))
+  unpacks-terms = written-terms ws cs (u .accepted) (u .words-are) (u .coefficients-are) (u .many)
 
   pub unpacks-few : count ≤ mostTerms
   unpacks-few = omega (arith, u .many, u .accepted .few)

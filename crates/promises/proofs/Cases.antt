@@ -25,8 +25,7 @@ use Rattle.text.specs.Signs.{isDigit}
 use Rattle.text.specs.Letters.{letterOf}
 use Rattle.text.specs.Tree.{Tree, Tree.number, Tree.letter, Tree.plus, Tree.times, Tree.raised, Tree.minus, size, nodesOf}
 use Rattle.text.specs.Reader.{takes, moreDigits, digitsAt, readAtom, readExponent, readFactor, readMore, isTimes, readTerm, isSign, signed, afterMinus, readSum, inBrackets, readWhole}
-use Rattle.text.specs.Text.{judgeText}
-use Rattle.listing.specs.Listing.{textSum}
+use Rattle.text.specs.Text.{judgeText, textSum}
 use Rattle.router.specs.Bytes.{plainNumber, signedNumber, plainBytes, signedBytes}
 use Rattle.router.specs.Readings.{numbersOf, spelled, beforeNegative, judgeReadings}
 use Rattle.router.specs.Estimate.{judgeRange, judgeTerms}

@@ -26,10 +26,9 @@ use Rattle.formula.proofs.Simplifying.{Simplified, nodes-shape}
 use Rattle.text.specs.Limits.{longestText, tablePlaces}
 use Rattle.text.specs.Tree.{Tree, size, nodesOf}
 use Rattle.text.specs.Grammar.{Formula}
-use Rattle.text.specs.Text.{judgeText, tableInto, readFormula}
+use Rattle.text.specs.Text.{judgeText, tableInto, readFormula, textSum}
 use Rattle.text.proofs.Formulas.{read-formula}
 use Rattle.text.proofs.Typing.{typed-means}
-use Rattle.listing.specs.Listing.{textSum}
 use Rattle.router.specs.Estimate.{judgeTerms, judgeEstimate}
 use Rattle.promises.specs.Becomes.{Simplifies, ReadsAs}
 use Rattle.promises.specs.FromText.{estimateOf}

@@ -2,7 +2,7 @@
 use mathlib.Core.List.{List}
 use Prim.Native.Nat.{ℕ}
 use Rattle.answers.specs.Judge.{Judged, andThen}
-use Rattle.listing.specs.Listing.{textSum}
+use Rattle.text.specs.Text.{textSum}
 use Rattle.router.specs.Estimate.{Estimate, judgeTerms}
 
 unfoldable pub estimateOf : List ℕ → List ℕ → List ℕ → Judged Estimate

@@ -1,7 +1,6 @@
 -- The laws that other crates cite; the proofs of the functions stand beside them, a folder each.
 pub mod Complement
 pub mod TwoBytes
-pub mod Filled
 pub mod Numbering
 pub mod Tolerances
 pub mod Passing

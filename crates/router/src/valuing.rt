@@ -19,7 +19,7 @@ pub struct Parts {
 }
 
 // Whether a product is negative, one factor of which is r to the power e; `negative` says it of the others.
-// With r = 0 the product is 0, and what is answered then says nothing.
+// With r = 0 and e above 0 the product is 0, and what is answered then says nothing.
 fn turned(negative: bool, r: i64, e: u64) -> bool
     ensures { λ b. ⌜ Turns negative b r e ⌝ }
 {

@@ -10,8 +10,9 @@ use Rattle.algebra.specs.Limits.{variables}
 use Rattle.answers.specs.Refusals.{ROOM}
 use Rattle.answers.specs.Answers.{Told.done, Told.refused, outcome}
 use Rattle.answers.specs.Areas.{written}
+use Rattle.text.specs.Text.{textSum}
 use Rattle.listing.specs.Lines.{mostLines}
-use Rattle.listing.specs.Listing.{textSum, listed, withoutNewline, list}
+use Rattle.listing.specs.Listing.{listed, withoutNewline, list}
 use Rattle.listing.proofs.Newline.{front}
 use Rattle.listing.proofs.list.Statement.{statement}
 use Rattle.listing.proofs.list.Tie as tie

@@ -1,6 +1,5 @@
 -- `read_coefficient` meets its contract: the two tests say that the coefficient does not weigh, or that it does.
 use mathlib.Core.Path.{_≡_, sym, _∙_}
-use Prim.Native.Nat.{_-_}
 use native.Mathlib.Omega.{arith}
 use borrow.Author.Needs.{needs}
 use Rattle.numbers.specs.Item.{Item.got}

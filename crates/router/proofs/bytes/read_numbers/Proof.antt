@@ -6,9 +6,9 @@ use native.Mathlib.Omega.{arith}
 use lib.IntN.{pos}
 use lib.ListN.{length, getD}
 use borrow.Author.Needs.{needs}
+use Rattle.answers.proofs.Writes.{written-all}
 use Rattle.answers.proofs.Copies.{Copying, start, again, ended}
 use Rattle.router.specs.Readings.{numbersOf}
-use Rattle.router.proofs.Filled.{filled}
 use Rattle.router.proofs.Numbering.{numbers-length, numbers-at}
 use Rattle.router.proofs.TwoBytes.{byte-fits, product-fits, sum-fits, less-fits, lower-half, upper-half}
 use Rattle.router.proofs.bytes.read_numbers.Statement.{statement}
@@ -87,7 +87,7 @@ same-length c = search needs
 returns : tie.Need-returns Inv-loop μ-loop
 returns c =
     let started = c .before .before in
-    ended _ _ _ _ _ (c .before .loop .inv) (omega arith) ∙ filled _ (started .args .numbers .now) (numbers-length _ _ (started .pre))
+    ended _ _ _ _ _ (c .before .loop .inv) (omega arith) ∙ written-all _ (started .args .numbers .now) (numbers-length _ _ (started .pre))
 
 pub read-numbers-spec : {M : Type 1} → statement M
 read-numbers-spec =

@@ -6,8 +6,8 @@ use lib.ListN.{length}
 use borrow.Author.Needs.{needs}
 use Rattle.algebra.specs.Margin.{unsigned, raisedBy}
 use Rattle.algebra.proofs.Sums.Margins.{raised-length}
+use Rattle.answers.proofs.Writes.{written-all}
 use Rattle.answers.proofs.Copies.{Copying, start, again, ended}
-use Rattle.router.proofs.Filled.{filled}
 use Rattle.router.proofs.Raising.{Raised, raised}
 use Rattle.router.proofs.readings.raise.Statement.{statement}
 use Rattle.router.proofs.readings.raise.Tie as tie
@@ -74,7 +74,7 @@ same-length c = search needs
 returns : tie.Need-returns Inv-loop μ-loop
 returns c =
     let started = c .before .before .before in
-    ended _ _ _ _ _ (c .before .loop .inv) (omega arith) ∙ filled _ (started .args .raised .now) (raised-length _ _ ∙ started .pre .0)
+    ended _ _ _ _ _ (c .before .loop .inv) (omega arith) ∙ written-all _ (started .args .raised .now) (raised-length _ _ ∙ started .pre .0)
 
 pub raise-spec : {M : Type 1} → statement M
 raise-spec =
