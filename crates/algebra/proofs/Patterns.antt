@@ -1,4 +1,5 @@
 -- Patterns, the term order, and patterns held in words.
+pub mod Lanes
 pub mod Laws
 pub mod Order
 pub mod Fields

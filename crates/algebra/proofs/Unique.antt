@@ -16,11 +16,11 @@ use Rattle.algebra.proofs.Pattern.largest_degree.Reads as largest-degre
 use Rattle.algebra.proofs.Pattern.empty.Reads as empty
 use Rattle.algebra.proofs.Pattern.product.Reads as product
 use Rattle.algebra.proofs.Pattern.degree.Reads as degree
+use Rattle.algebra.proofs.Pattern.total.Reads as total
 use Rattle.algebra.proofs.Pattern.compare.Reads as compare
 use Rattle.algebra.proofs.Pattern.exponent.Reads as exponent
 use Rattle.algebra.proofs.Pattern.power.Reads as power
 use Rattle.algebra.proofs.Pattern.without.Reads as without
-use Rattle.algebra.proofs.Pattern.is_valid.Reads as is-valid
 use Rattle.algebra.proofs.Pattern.slope_step.Reads as slope-step
 
 -- ---- Results that a contract fixes by equations of their parts.
@@ -63,6 +63,9 @@ variables-one k a r r' e e' h h' = same h h'
 pub largest-degree-one : One largest-degree.Learnt
 largest-degree-one k a r r' e e' h h' = same h h'
 
+pub total-one : One total.Learnt
+total-one k a r r' e e' h h' = same h h'
+
 pub empty-one : One empty.Learnt
 empty-one k a r r' e e' h h' = pattern h h'
 
@@ -83,9 +86,6 @@ power-one k a r r' e e' h h' = pattern h h'
 
 pub without-one : One without.Learnt
 without-one k a r r' e e' h h' = pattern h h'
-
-pub is-valid-one : One is-valid.Learnt
-is-valid-one k a r r' e e' h h' = same h h'
 
 pub slope-step-one : One slope-step.Learnt
 slope-step-one k a r r' e e' h h' = step h h'

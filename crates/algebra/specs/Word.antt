@@ -3,9 +3,9 @@ use mathlib.Core.Path.{_≡_}
 use mathlib.Core.Bool.{Bool, _&&_}
 use lib.Dec.{eqb, leb}
 use mathlib.Core.List.{List, [], _∷_}
-use Prim.Native.Nat.{ℕ, zero, suc, _+_, _*_, _^_, _/_, _%_, _≤_}
+use Prim.Native.Nat.{ℕ, zero, suc, _+_, _*_, _^_, _/_, _%_, _≤_, _<_}
 use lib.IntN.{ℤ}
-use lib.ListN.{length}
+use lib.ListN.{length, getD}
 use Rattle.algebra.specs.Limits.{variables, largestDegree}
 use Rattle.algebra.specs.Pattern.{Pattern, degree}
 use Rattle.algebra.specs.Sum.{Term, term}
@@ -48,3 +48,7 @@ isValid w = eqb (word (exponents w)) w && leb (degree (exponents w)) largestDegr
 pub record Valid (w : ℕ) : Type 0 where
   pub is : word (exponents w) ≡ w
   pub low : degree (exponents w) ≤ largestDegree
+
+-- each word of a list is
+abbrev pub EachValid : List ℕ → Type 0
+EachValid ws = (k : ℕ) → k < length ws → Valid (getD ws k 0)

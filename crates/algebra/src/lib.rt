@@ -1,10 +1,10 @@
 // Power patterns, each in one machine word.
 ghost use mathlib.Core.Path.{_≡_};
-ghost use Prim.Native.Nat.{_+_, _*_, _-_, _≤_, _<_};
+ghost use Prim.Native.Nat.{_+_, _*_, _-_, _/_, _^_, _≤_, _<_};
 ghost use lib.ListN.{set};
 ghost use Rattle.algebra.specs.Limits.{variables, largestDegree, mostTerms, largestWeight, mostNodes, workPlaces};
 ghost use Rattle.algebra.specs.Pattern.{emptyPattern, times, degree, exponent, lowered, without, order};
-ghost use Rattle.algebra.specs.Word.{word, exponents, isValid, Valid};
+ghost use Rattle.algebra.specs.Word.{word, exponents, Valid};
 ghost use Rattle.algebra.specs.Standing.{standing};
 
 // The limits of a sum and of a formula. (Those of a pattern are the pattern's own.)
@@ -71,6 +71,12 @@ impl Pattern {
 
     const FIELD_SIZE: u64 = 256;
 
+    // The lower of each two bytes.
+    const EVERY_SECOND: u64 = 0x00ff00ff00ff00ff;
+
+    // The quotient of a valid word by 255 has fewer bits.
+    const RANK_BITS: u64 = 56;
+
     // The next three tie the constants to the definitions.
     pub fn variables() -> u64
         ensures { λ r. ⌜ r ≡ variables ⌝ }
@@ -109,6 +115,24 @@ impl Pattern {
         self.0 % 255
     }
 
+    // The degree of any word, whatever its bytes are. They are added in two lots, every second byte in each: so two bytes share the 16 bits of two, and their
+    // sum has room there. And 65536 leaves 1 when divided by 65535, as 256 does by 255.
+    pub fn total(self) -> u64
+        ensures { λ r. ⌜ r ≡ degree (exponents (self .0)) ⌝ }
+    {
+        let lanes = (self.0 & Pattern::EVERY_SECOND)
+            + ((self.0 >> Pattern::FIELD_BITS) & Pattern::EVERY_SECOND);
+        lanes % 65535
+    }
+
+    // The place in the term order as one number: the degree, and below it the quotient by 255. At equal remainders the larger word has the larger quotient.
+    fn rank(self) -> u64
+        requires { ⌜ Valid (self .0) ⌝ }
+        ensures { λ r. ⌜ r ≡ degree (exponents (self .0)) * 2 ^ 56 + self .0 / 255 ⌝ }
+    {
+        ((self.0 % 255) << Pattern::RANK_BITS) + self.0 / 255
+    }
+
     // The larger degree stands first. At equal degrees it is the larger word: the first byte in which
     // the two differ decides.
     pub fn compare(self, other: Pattern) -> Standing
@@ -116,18 +140,12 @@ impl Pattern {
         requires { ⌜ Valid (other .0) ⌝ }
         ensures { λ r. ⌜ standing r ≡ order (exponents (self .0)) (exponents (other .0)) ⌝ }
     {
-        let mine = self.degree();
-        let theirs = other.degree();
+        let mine = self.rank();
+        let theirs = other.rank();
         if mine > theirs {
             return Standing::Before;
         }
         if mine < theirs {
-            return Standing::After;
-        }
-        if self.0 > other.0 {
-            return Standing::Before;
-        }
-        if self.0 < other.0 {
             return Standing::After;
         }
         Standing::Same
@@ -166,20 +184,6 @@ impl Pattern {
     {
         let alone = Pattern::power(v, self.exponent(v));
         Pattern(self.0 - alone.0)
-    }
-
-    // For any word: a caller's word is taken field by field. Each word is that of its eight bytes, so
-    // the degree decides.
-    pub fn is_valid(self) -> bool
-        ensures { λ r. ⌜ r ≡ isValid (self .0) ⌝ }
-    {
-        let mut total: u64 = 0;
-        let mut v: u64 = 0;
-        while v < Pattern::VARIABLES {
-            total += self.exponent(v);
-            v += 1;
-        }
-        total <= Pattern::LARGEST_DEGREE
     }
 
     // A pattern without v is its own step: the power 0 says that its term goes.

@@ -49,6 +49,12 @@ mapped-id (got a next) = refl
 mapped-id (cut place) = refl
 mapped-id (bad place) = refl
 
+pub then-then : {A B C : Type 0} (r : Item A) (f : A → ℕ → Item B) (g : B → ℕ → Item C) → andThen (andThen r f) g ≡ andThen r (λ a next. andThen (f a next) g)
+unfolding andThen
+then-then (got a next) f g = refl
+then-then (cut place) f g = refl
+then-then (bad place) f g = refl
+
 -- ---- Backwards.
 
 -- the value that went on from the first reading to the second
@@ -161,11 +167,22 @@ pub alike-same : {A : Type 0} {x y : Item A} → Alike x y → x ≡ y
 alike-same both-cut = refl
 alike-same both-bad = refl
 
-no-value : (r : Read) → OneOf (1 ∷ 2 ∷ []) (tagOf the-type r) → (v next : ℕ) → itemOf r ≡ got v next → ⊥
+pub no-value : (r : Read) → OneOf (1 ∷ 2 ∷ []) (tagOf the-type r) → (v next : ℕ) → itemOf r ≡ got v next → ⊥
 no-value (Value x y) (inl k) v next e = omega arith
 no-value (Value x y) (inr k) v next e = omega arith
 no-value (Cut place) k v next e = let z : _≡_ {A = ℕ} 0 1 = cc in omega arith
 no-value (Bad place) k v next e = let z : _≡_ {A = ℕ} 0 1 = cc in omega arith
+
+-- an answer that is a value, whose parts nobody asked for
+pub record IsValue (r : Read) : Type 0 where
+  pub value : ℕ
+  pub next : ℕ
+  pub is : r ≡ Value value next
+
+pub is-value : (r : Read) → OneOf (0 ∷ []) (tagOf the-type r) → IsValue r
+is-value (Value v next) k = record { value = v; next = next; is = refl }
+is-value (Cut place) k = absurd (omega arith)
+is-value (Bad place) k = absurd (omega arith)
 
 -- an answer that is no value has met the fault of what it answers
 pub stopped : {A : Type 0} (r : Read) → OneOf (1 ∷ 2 ∷ []) (tagOf the-type r) → (h : A → ℕ) (y : Item A) → itemOf r ≡ mapped h y → Alike (itemOf r) y

@@ -8,7 +8,7 @@ use lib.ListN.{length, getD, take, drop}
 use lib.Seq.{drop-at, length-take-le, sets, sets-eq}
 use Rattle.numbers.specs.Item.{Item.got, Item.cut, Item.bad}
 use Rattle.numbers.specs.Number.{mostGroups, numberBytes, groupsOf, readNumber}
-use Rattle.numbers.proofs.Groups.{groups-last, groups-next, groups-some, groups-length, groups-bytes, groups-cut, groups-bad, read-written, taken}
+use Rattle.numbers.proofs.Groups.{groups-last, groups-next, groups-some, groups-length, groups-bytes, at-last, groups-cut, groups-bad, groups-inside, read-written, taken}
 
 -- ---- The bytes of a number.
 
@@ -49,6 +49,11 @@ write-read area at n room fits =
     rw (sets-eq (numberBytes n) area at room, append-assoc) (drop-at (take at area) _ at (length-take-le at area (omega arith))) in
     number-read _ at n _ fits d
 
+-- a byte below 128 is a whole number
+pub number-byte : (s : List ℕ) (at : ℕ) → at < length s → getD s at 0 < 128 → readNumber s at ≡ got (getD s at 0) (at + 1)
+unfolding readNumber
+number-byte s at inside low = at-last s at at inside 8 low (λ late. omega arith)
+
 -- ---- What is read was written.
 
 -- the bytes from `at` up to `next` are those of v
@@ -64,6 +69,11 @@ number-written s at v next byte e =
     record { bytes = t .bytes; ends = t .ends; small = t .small }
 
 -- ---- The places of the answers.
+
+-- a number that was read ends inside the bytes
+pub number-inside : (s : List ℕ) (at v next : ℕ) → readNumber s at ≡ got v next → (at < next) × (next ≤ length s)
+unfolding readNumber
+number-inside s at v next e = groups-inside s at 9 at v next e
 
 -- a cut is at the end of the bytes, at most nine bytes on
 pub number-cut : (s : List ℕ) (at p : ℕ) → readNumber s at ≡ cut p → (p ≡ length s) × (p ≤ at + 9)

@@ -1,9 +1,9 @@
 -- Weights above 2^62 are found without overflow: they are only told apart from those that are allowed.
 use mathlib.Core.Path.{_≡_, sym, _∙_, ap}
-use Prim.Native.Nat.{ℕ, suc, _+_, _*_, _^_, _/_, _≤_, _<_}
+use Prim.Native.Nat.{ℕ, suc, _+_, _*_, _^_, _/_, _%_, _-_, _≤_, _<_}
 use native.Mathlib.Omega.{arith}
 use native.Mathlib.Decide.{decLt, ℕ-discrete}
-use native.Mathlib.Nat.{le-div-iff-mul-le, div-lt-iff-lt-mul, min-eq-left, min-eq-right, mul-le-mul-left, mul-comm, mul-zero, pow-zero, pow-suc}
+use native.Mathlib.Nat.{min-eq-left, min-eq-right, mul-le-mul, mul-le-mul-left, mul-comm, mul-right-comm, add-mul, mul-zero, pow-zero, pow-suc, one-mul}
 use native.Mathlib.Numerals.{add-one}
 use Rattle.algebra.specs.Limits.{largestWeight}
 use Rattle.weights.specs.Capped.{capped}
@@ -21,17 +21,45 @@ capped-light v w e h = omega (arith, e)
 pub capped-heavy : (v w : ℕ) → v ≡ capped w → largestWeight < v → largestWeight < w
 capped-heavy v w e h = omega (arith, e)
 
--- ---- A product, tested before it is formed.
+-- ---- A product, half by half.
 
 positive : (v : ℕ) → (v ≡ 0 → ⊥) → 0 < v
 positive v some = omega (arith, some)
 
-module _ (v w : ℕ) (some : v ≡ 0 → ⊥) where
-  pub product-heavy : largestWeight / v < w → largestWeight < v * w
-  product-heavy h = rw (mul-comm v w) (div-lt-iff-lt-mul (positive v some) .0 h)
+abbrev half : ℕ
+half = 2 ^ 32
 
-  pub product-light : w ≤ largestWeight / v → v * w ≤ largestWeight
-  product-light h = rw (mul-comm v w) (le-div-iff-mul-le (positive v some) .0 h)
+-- numbers of half a word are multiplied in one
+pub halves-fit : {m n : ℕ} → m < half → n < half → m * n < 2 ^ 64
+halves-fit {m} {n} h k =
+    let low : m ≤ half - 1 = omega arith in
+    let low' : n ≤ half - 1 = omega arith in
+    omega (arith, mul-le-mul low low')
+
+-- and the product of two that are smaller by half is a weight
+pub small-light : {m n : ℕ} → m < half / 2 → n < half / 2 → m * n ≤ largestWeight
+small-light {m} {n} h k =
+    let low : m ≤ half / 2 = omega arith in
+    let low' : n ≤ half / 2 = omega arith in
+    omega (arith, mul-le-mul low low')
+
+module _ (v w : ℕ) where
+  pub halves : v * w ≡ v / half * w * half + v % half * w
+  halves =
+      let parts : v ≡ v / half * half + v % half = omega arith in
+      ap (λ (n : ℕ). n * w) parts ∙ add-mul (v / half * half) (v % half) w ∙ ap (λ (n : ℕ). n + v % half * w) (mul-right-comm (v / half) half w)
+
+  pub high-heavy : largestWeight / half < v / half * w → largestWeight < v * w
+  high-heavy h = omega (arith, halves)
+
+  pub low-heavy : largestWeight < v % half * w → largestWeight < v * w
+  low-heavy h = omega (arith, halves)
+
+-- and two numbers of more than that have a product above every weight
+pub both-heavy : {v w : ℕ} → half ≤ v → half ≤ w → largestWeight < v * w
+both-heavy {v} {w} h k =
+    let least : half * half ≤ v * w = mul-le-mul h k in
+    omega (arith, least)
 
 -- a factor may be capped before
 pub capped-times : (x w : ℕ) → capped (capped x * w) ≡ capped (x * w)
@@ -62,8 +90,11 @@ pub record Raising (w e power k : ℕ) : Type 0 where
   pub so-far : power ≡ capped (w ^ k)
   pub inside : k ≤ e
 
-pub start : (w e : ℕ) → Raising w e 1 0
-start w e = record { so-far = ap capped (sym (pow-zero w)); inside = omega arith }
+pub none-raised : (w : ℕ) → 1 ≡ capped (w ^ 0)
+none-raised w = ap capped (sym (pow-zero w))
+
+pub start : (w e power : ℕ) → (e ≡ 0 → ⊥) → power ≡ capped w → Raising w e power 1
+start w e power some is = record { so-far = is ∙ ap capped (sym (pow-suc w 0 ∙ ap (λ (n : ℕ). n * w) (pow-zero w) ∙ one-mul w)); inside = omega (arith, some) }
 
 pub again : (w e power k next : ℕ) → Raising w e power k → k < e → next ≡ capped (power * w) → Raising w e next (k + 1)
 again w e power k next r h n =

@@ -2,7 +2,7 @@
 // found without being formed.
 use algebra::LARGEST_WEIGHT;
 ghost use mathlib.Core.Path.{_≡_};
-ghost use Prim.Native.Nat.{_+_, _*_, _^_, max};
+ghost use Prim.Native.Nat.{_+_, _*_, _^_, _<_, max};
 ghost use Rattle.weights.specs.Capped.{capped};
 
 // The larger of two degrees, or of two powers.
@@ -38,25 +38,58 @@ pub fn sum(v: u64, w: u64) -> u64
     v + w
 }
 
-// A product that would be above 2^62 is not formed.
+// Half of a word's bits: numbers below it are multiplied without running over.
+const HALF: u64 = 4294967296;
+
+// What the upper half of a weight can be.
+const LARGEST_HIGH: u64 = LARGEST_WEIGHT / HALF;
+
+// A product by a number of half a word, half by half. Nothing above 2^62 is formed but the two parts.
+fn half_product(v: u64, w: u64) -> u64
+    requires { ⌜ w < 2 ^ 32 ⌝ }
+    ensures { λ r. ⌜ r ≡ capped (v * w) ⌝ }
+{
+    let high = (v / HALF) * w;
+    if high > LARGEST_HIGH {
+        return TOO_HEAVY;
+    }
+    let low = (v % HALF) * w;
+    if low > LARGEST_WEIGHT {
+        return TOO_HEAVY;
+    }
+    cap(high * HALF + low)
+}
+
+// The product of two numbers below this one is below 2^62.
+const SMALL: u64 = HALF / 2;
+
+// Small numbers are the usual case. Two numbers of more than half a word have a product above 2^62. No division is needed.
 pub fn product(v: u64, w: u64) -> u64
     ensures { λ r. ⌜ r ≡ capped (v * w) ⌝ }
 {
-    if v == 0 {
-        return 0;
+    if v < SMALL {
+        if w < SMALL {
+            return v * w;
+        }
     }
-    if w > LARGEST_WEIGHT / v {
-        return TOO_HEAVY;
+    if w < HALF {
+        return half_product(v, w);
     }
-    v * w
+    if v < HALF {
+        return half_product(w, v);
+    }
+    TOO_HEAVY
 }
 
 // Product by product, so nothing above 2^62 is multiplied again.
 pub fn power(w: u64, e: u64) -> u64
     ensures { λ r. ⌜ r ≡ capped (w ^ e) ⌝ }
 {
-    let mut power = 1;
-    let mut k = 0;
+    if e == 0 {
+        return 1;
+    }
+    let mut power = cap(w);
+    let mut k = 1;
     while k < e {
         power = product(power, w);
         k += 1;

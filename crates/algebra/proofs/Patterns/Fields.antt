@@ -1,9 +1,9 @@
 -- The laws of words, each once for every field base B and every number of variables.
 use mathlib.Core.Path.{_≡_, refl, sym, _∙_, ap, ap₂, subst}
 use mathlib.Core.List.{[], _∷_}
-use Prim.Native.Nat.{ℕ, zero, suc, _+_, _*_, _^_, _/_, _%_, _-_, _<_, compare, Ordering, Ordering·lt, Ordering·eq, Ordering·gt}
+use Prim.Native.Nat.{ℕ, zero, suc, _+_, _*_, _^_, _/_, _%_, _-_, _≤_, _<_, compare, Ordering, Ordering·lt, Ordering·eq, Ordering·gt}
 use native.Mathlib.Omega.{arith}
-use native.Mathlib.Nat.{pow-zero, pow-suc, pow-succ', mul-zero, mul-suc, mod-eq-of-lt, mod-lt, mod-one, add-mul, mul-assoc, mul-add-div-right, mul-add-mod-self-right, one-le-pow}
+use native.Mathlib.Nat.{pow-zero, pow-suc, pow-succ', mul-zero, mul-suc, mod-eq-of-lt, mod-lt, mod-one, add-mul, mul-assoc, mul-add-div-right, mul-add-mod-self-right, mul-le-mul-left, one-le-pow, pow-le-pow-right}
 use lib.Arith.{digits-lt, digits-div, digits-mod, mod-mul}
 use lib.Pow.{pow-add}
 use lib.ListN.{length, set, length-set}
@@ -39,6 +39,17 @@ pub word-lt : {B : ℕ} {p : Pattern} → Below B p → wordOf B p < B ^ length 
 unfolding wordOf
 word-lt {B} none = omega (arith, pow-zero B)
 word-lt {B} (more {e} {p} h t) = rw pow-succ' (digits-lt h (word-lt t))
+
+-- no word is above its degree at the highest place
+pub word-most : (B : ℕ) → 0 < B → (n : ℕ) (p : Pattern) → length p ≤ suc n → wordOf B p ≤ degree p * B ^ n
+unfolding wordOf degree
+word-most B h n [] k = omega arith
+word-most B h zero (e ∷ []) k = rw (pow-zero B) (omega arith)
+word-most B h zero (e ∷ f ∷ p) k = absurd (omega arith)
+word-most B h (suc n) (e ∷ p) k =
+    let first : e * B ^ length p ≤ e * B ^ suc n = mul-le-mul-left e (pow-le-pow-right h (omega arith)) in
+    let others : degree p * B ^ n ≤ degree p * B ^ suc n = mul-le-mul-left (degree p) (pow-le-pow-right h (omega arith)) in
+    omega (arith, first, others, word-most B h n p (omega arith), add-mul e (degree p) (B ^ suc n))
 
 -- what stands above n fields does not change them
 fields-high : (B : ℕ) → 0 < B → (n a w : ℕ) → fieldsOf B n (a * B ^ n + w) ≡ fieldsOf B n w

@@ -5,9 +5,9 @@ use Prim.Native.Nat.{ℕ, _-_, _<_, compare, Ordering, Ordering·lt, Ordering·e
 use native.Mathlib.Omega.{arith}
 use lib.Dec.{T, eqb, eqb→eq, eqb-refl}
 use lib.ListN.{length, set, length-set}
-use Rattle.algebra.specs.Pattern.{Pattern, emptyPattern, filled, times, degree, exponent, lowered, same, thenBy, byPowers, order}
+use Rattle.algebra.specs.Pattern.{Pattern, emptyPattern, filled, times, degree, exponent, lowered, without, same, thenBy, byPowers, order}
 use Rattle.algebra.proofs.Numbers.Test.{and, and-l, and-r}
-use Rattle.algebra.proofs.Patterns.Laws.{degree-times, present, raised-lowered, raised-times, alone-length, filled-degree}
+use Rattle.algebra.proofs.Patterns.Laws.{times-comm, degree-times, present, raised-lowered, raised-times, alone-length, without-times, filled-degree}
 use Rattle.algebra.proofs.Numbers.Compare.{Says, compare-says, compare-is, compare-eq, turn, compare-turn, compare-add}
 
 -- ---- The test that two patterns are the same.
@@ -151,6 +151,16 @@ order-lowered v p q h k l = sym (order-times one (lowered v p) (lowered v q) (lo
 
     again : (r : Pattern) → length r ≡ length p → 0 < exponent v r → times one (lowered v r) ≡ r
     again r e some = raised-times (length p) v (lowered v r) (long r ∙ e) (omega (arith, present v r some)) ∙ raised-lowered v r some
+
+-- nor does a power that both have, as a whole
+pub order-without : (n v : ℕ) (p q : Pattern) → length p ≡ n → length q ≡ n → v < n → exponent v p ≡ exponent v q → order (without v p) (without v q) ≡ order p q
+order-without n v p q h k inside e =
+    let own = set (emptyPattern n) v (exponent v p) in
+    let long : length (without v p) ≡ n = length-set p v 0 ∙ h in
+    let other : length (without v q) ≡ n = length-set q v 0 ∙ k in
+    sym (order-times own (without v p) (without v q) (long ∙ sym other) (alone-length n v (exponent v p) ∙ sym long))
+    ∙ ap₂ order (times-comm own (without v p) ∙ without-times n v p h inside)
+    (times-comm own (without v q) ∙ ap (λ (i : ℕ). times (without v q) (set (emptyPattern n) v i)) e ∙ without-times n v q k inside)
 
 -- ---- Patterns that are filled up with exponents 0 stand as before.
 

@@ -1,18 +1,19 @@
 -- The laws of the layout, a byte for each of the eight variables. What needs a law of `word` or `exponents` finds it here, and opens neither.
 use mathlib.Core.Path.{_≡_, refl, sym, _∙_, ap, ap₂, subst}
+use mathlib.Core.List.{[]}
 use Prim.Native.Nat.{ℕ, suc, _+_, _*_, _^_, _/_, _%_, _-_, _≤_, _<_, compare}
 use native.Mathlib.Omega.{arith}
 use borrow.Author.Tests.{eq-eqb}
 use lib.Dec.{T, eqb, leb, eqb→eq, leb→le, le→leb}
-use lib.ListN.{length, set, length-set}
+use lib.ListN.{length, drop, set, length-set, length-drop}
 use lib.Pow.{shl-exact}
-use lib.Seq.{set-getD}
+use lib.Seq.{drop-cons, set-getD}
 use Rattle.algebra.specs.Limits.{variables, largestDegree}
 use Rattle.algebra.specs.Pattern.{Pattern, emptyPattern, times, degree, exponent, lowered, without, thenBy, order}
-use Rattle.algebra.specs.Word.{fieldSize, word, exponents, isValid, Valid}
+use Rattle.algebra.specs.Word.{fieldSize, wordOf, word, exponents, isValid, Valid}
 use Rattle.algebra.proofs.Numbers.Test.{and, and-l, and-r}
 use Rattle.algebra.proofs.Patterns.Laws.{times-length, degree-times, empty-degree, set-degree, alone-length, without-times, without-degree}
-use Rattle.algebra.proofs.Patterns.Fields.{below-degree, fields-below, fields-length, word-lt, fields-word, word-fields-lt, field-at, place-bits, word-zero, word-alone, word-times, word-degree, order-word, word-lowered}
+use Rattle.algebra.proofs.Patterns.Fields.{Below, below-degree, fields-below, fields-length, word-lt, word-most, fields-word, word-fields-lt, field-at, place-bits, word-zero, word-alone, word-times, word-degree, order-word, word-lowered}
 
 -- ---- There and back.
 
@@ -29,14 +30,18 @@ pub word-exponents : (w : ℕ) → w < 2 ^ 64 → word (exponents w) ≡ w
 unfolding word exponents
 word-exponents w h = word-fields-lt fieldSize variables w (omega arith) h
 
+-- any eight bytes are the exponents of their word
+pub exponents-bytes : (p : Pattern) → length p ≡ variables → Below fieldSize p → exponents (word p) ≡ p
+unfolding word exponents
+exponents-bytes p long low = rw long at (fields-word {p = p} (omega arith) low)
+
 module _ (p : Pattern) (long : length p ≡ variables) (low : degree p ≤ largestDegree) where
   pub word-small : word p < 2 ^ 64
   unfolding word
   word-small = rw long at (word-lt (below-degree fieldSize p (omega arith)))
 
   pub exponents-word : exponents (word p) ≡ p
-  unfolding word exponents
-  exponents-word = rw long at (fields-word {p = p} (omega arith) (below-degree fieldSize p (omega arith)))
+  exponents-word = exponents-bytes p long (below-degree fieldSize p (omega arith))
 
   -- a pattern within the limits has a valid word
   pub word-valid : Valid (word p)
@@ -80,6 +85,12 @@ module _ (w : ℕ) (valid : Valid w) where
   unfolding word
   valid-degree = ap (λ (k : ℕ). k % (fieldSize - 1)) (sym (valid .is)) ∙ word-degree (fieldSize - 1) (exponents w) (omega (arith, valid .low))
 
+  pub quotient-small : w / (fieldSize - 1) < 2 ^ 56
+  unfolding word
+  quotient-small =
+      let most = word-most fieldSize (omega arith) 7 (exponents w) (omega (arith, exponents-length w)) in
+      omega (arith, most, valid .is, valid .low)
+
 module _ (v w : ℕ) (a : Valid v) (b : Valid w) where
   -- the product's word is the words' sum
   pub word-product : word (times (exponents v) (exponents w)) ≡ v + w
@@ -111,6 +122,18 @@ bitsBelow v = 8 * (variables - 1 - v)
 
 place : (v : ℕ) → v < variables → fieldSize ^ (variables - suc v) ≡ 2 ^ bitsBelow v
 place v h = place-bits 8 (variables - suc v) ∙ ap (λ (k : ℕ). 2 ^ k) (omega arith)
+
+-- a word byte by byte: the first of the bytes from v on, shifted by these bits, and the word of the others
+pub word-next : (p : Pattern) (v : ℕ) → length p ≡ variables → v < variables → word (drop v p) ≡ exponent v p * 2 ^ bitsBelow v + word (drop (suc v) p)
+unfolding word wordOf
+word-next p v long h =
+    let inside : v < length p = omega arith in
+    let left : length (drop (suc v) p) ≡ variables - suc v = length-drop (suc v) p ∙ ap (λ (n : ℕ). n - suc v) long in
+    ap word (drop-cons p v 0 inside) ∙ ap (λ (k : ℕ). exponent v p * k + word (drop (suc v) p)) (ap (λ (n : ℕ). fieldSize ^ n) left ∙ place v h)
+
+pub word-none : word [] ≡ 0
+unfolding word wordOf
+word-none = refl
 
 -- a shift of 1 by these bits loses nothing
 pub one-shifted : (v k : ℕ) → v < variables → k ≡ bitsBelow v → 1 * 2 ^ k % 2 ^ 64 ≡ 2 ^ bitsBelow v

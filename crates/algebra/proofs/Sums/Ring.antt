@@ -48,7 +48,7 @@ module _ (f : Term → ℤ) (A : Additive f) where
     none = λ q. ap (λ z. f (term z (times (u .pattern) q))) (*ℤ-zero (u .coefficient)) ∙ A .none (times (u .pattern) q);
   }
 
-  comm-total : (s t : Sum) → total f (pairs s t) ≡ total f (pairs t s)
+  pub comm-total : (s t : Sum) → total f (pairs s t) ≡ total f (pairs t s)
   comm-total s t =
       pairs-total f s t ∙ total-swap (λ u v. f (timesTerm u v)) s t
       ∙ total-ext (λ v. total-ext (λ u. ap f (term-comm u v)) s) t ∙ sym (pairs-total f t s)

@@ -77,7 +77,7 @@ column-occurs r u s (v ∷ t) =
     ∙ or-mix (same r (times (v .pattern) (u .pattern))) (occurs r (row v s)) (occurs r (row u t)) (occurs r (pairs t s))
     ∙ ap₂ _||_ (ap (λ p. same r p || occurs r (row u t)) (times-comm (v .pattern) (u .pattern)) ∙ sym (occurs-cons r (timesTerm u v) (row u t))) (sym (append-occurs r (row v s) (pairs t s)))
 
-pairs-occurs : (r : Pattern) (s t : Sum) → occurs r (pairs s t) ≡ occurs r (pairs t s)
+pub pairs-occurs : (r : Pattern) (s t : Sum) → occurs r (pairs s t) ≡ occurs r (pairs t s)
 unfolding pairs row
 pairs-occurs r [] t = none t
   where

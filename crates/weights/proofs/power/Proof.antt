@@ -1,7 +1,7 @@
 -- `power` meets its contract: the loop keeps `Raising`.
 use Prim.Native.Nat.{_-_}
 use borrow.Author.Needs.{needs}
-use Rattle.weights.proofs.Weighing.{Raising, start, again, ended}
+use Rattle.weights.proofs.Weighing.{Raising, none-raised, start, again, ended}
 use Rattle.weights.proofs.power.Statement.{statement}
 use Rattle.weights.proofs.power.Tie as tie
 
@@ -11,8 +11,14 @@ Inv-loop w e power₀ k₀ power k = Raising w e power k
 abbrev μ-loop : tie.MeasureT-loop
 μ-loop w e power₀ k₀ power k = e - k
 
+returns : tie.Need-returns Inv-loop μ-loop
+returns c = rw (c .if1 .taken) (none-raised (c .before .args .w))
+
+cap-requires : tie.Need-cap-requires Inv-loop μ-loop
+cap-requires c κs = search needs
+
 loop-holds : tie.Need-loop-holds Inv-loop μ-loop
-loop-holds c = start _ _
+loop-holds c = start _ _ _ (c .before .if1 .left) (c .cap .ensures)
 
 product-requires : tie.Need-product-requires Inv-loop μ-loop
 product-requires c κs = search needs
@@ -26,8 +32,8 @@ loop-less c = search needs
 loop-again : tie.Need-loop-again Inv-loop μ-loop
 loop-again c = again _ _ _ _ _ (c .before .before .loop .inv) (c .before .loop-test .taken) (c .product .ensures)
 
-returns : tie.Need-returns Inv-loop μ-loop
-returns c = ended _ _ _ _ (c .before .loop .inv) (c .loop-test .left)
+returns-2 : tie.Need-returns-2 Inv-loop μ-loop
+returns-2 c = ended _ _ _ _ (c .before .loop .inv) (c .loop-test .left)
 
 pub power-spec : {M : Type 1} → statement M
 power-spec =
@@ -35,9 +41,11 @@ power-spec =
     (tie.spec
     Inv-loop
     μ-loop
+    returns
+    cap-requires
     loop-holds
     product-requires
     add-k
     loop-less
     loop-again
-    returns)
+    returns-2)
