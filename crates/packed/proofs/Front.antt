@@ -1,5 +1,5 @@
 -- The terms in the first places of two areas: how many they are, and the one at a place.
-use mathlib.Core.Path.{_≡_, sym, _∙_, ap, ap₂}
+use mathlib.Core.Path.{_≡_, sym, _∙_, ap, ap₂, subst}
 use mathlib.Core.List.{List, _∷_}
 use Prim.Native.Nat.{ℕ, _+_, _≤_, _<_}
 use native.Mathlib.Numerals.{add-one}
@@ -7,9 +7,11 @@ use lib.IntN.{ℤ, pos}
 use lib.ListN.{length, getD, take, drop}
 use lib.Seq.{drop-cons, getD-take, length-take-le}
 use Rattle.algebra.specs.Sum.{Term, term, Sum}
-use Rattle.algebra.specs.Word.{exponents, terms}
-use Rattle.algebra.proofs.Patterns.Held.{held-length, held-at}
-use Rattle.algebra.specs.Held.{firstTerms}
+use Rattle.algebra.specs.Word.{exponents, terms, Valid, EachValid}
+use Rattle.algebra.proofs.Patterns.Held.{held-length, held-at, held-words, held-coefficients}
+use Rattle.algebra.proofs.Patterns.Word.{exponents-length}
+use Rattle.algebra.proofs.Sums.Held.{word-for}
+use Rattle.algebra.specs.Held.{wordFor, wordsOf, coefficientsOf, firstTerms}
 
 -- the term at a place
 abbrev pub at-place : List ℕ → List ℤ → ℕ → Term
@@ -20,6 +22,10 @@ pub first-next : {A : Type 0} (d : A) (count : ℕ) (l : List A) → count ≤ l
 first-next d count l room k h =
     drop-cons (take count l) k d (rw (length-take-le count l room) h)
     ∙ ap₂ _∷_ (getD-take count l k d h) (ap (λ (i : ℕ). drop i (take count l)) (sym (add-one k)))
+
+-- the word at a place is valid
+pub valid-at : (count : ℕ) (ws : List ℕ) → count ≤ length ws → EachValid (take count ws) → (k : ℕ) → k < count → Valid (getD ws k 0)
+valid-at count ws words valid k h = subst Valid (getD-take count ws k 0 h) (valid k (rw (length-take-le count ws words) h))
 
 module _ (count : ℕ) (ws : List ℕ) (cs : List ℤ) (words : count ≤ length ws) (coefficients : count ≤ length cs) where
   pub front-length : length (firstTerms count ws cs) ≡ count
@@ -37,3 +43,17 @@ module _ (count : ℕ) (ws : List ℕ) (cs : List ℤ) (words : count ≤ length
       ∙ ap₂ (λ (c : ℤ) (w : ℕ). term c (exponents w)) (getD-take count cs k (pos 0) h) (getD-take count ws k 0 h) in
       drop-cons all k (at-place ws cs k) (rw front-length h)
       ∙ ap₂ (λ (t : Term) (s : Sum). t ∷ s) is (ap (λ (i : ℕ). drop i all) (sym (add-one k)))
+
+  -- the words and the coefficients again
+  alike : length (take count ws) ≡ length (take count cs)
+  alike = length-take-le count ws words ∙ sym (length-take-le count cs coefficients)
+
+  pub front-words : EachValid (take count ws) → wordsOf (firstTerms count ws cs) ≡ take count ws
+  unfolding terms
+  front-words valid =
+      held-words exponents wordFor (take count ws) (take count cs) alike
+      (λ i h. word-for (exponents (getD (take count ws) i 0)) (exponents-length (getD (take count ws) i 0)) ∙ valid i h .is)
+
+  pub front-coefficients : coefficientsOf (firstTerms count ws cs) ≡ take count cs
+  unfolding terms
+  front-coefficients = held-coefficients exponents (take count ws) (take count cs) alike

@@ -2,14 +2,14 @@
 use mathlib.Core.Path.{_≡_, refl}
 use mathlib.Core.Bool.{Bool, true, false, not, cond, _&&_}
 use mathlib.Core.List.{List, [], _∷_}
-use Prim.Native.Nat.{ℕ, suc, _+_, _≤_}
+use Prim.Native.Nat.{ℕ, zero, suc, _+_, _≤_}
 use native.Mathlib.Omega.{arith}
 use lib.Dec.{T, leb, leb→le, le→leb}
 use lib.IntN.{ℤ, natAbs}
 use lib.ListN.{length}
 use Rattle.algebra.specs.Limits.{variables, largestDegree, mostTerms, largestWeight}
 use Rattle.algebra.specs.Pattern.{degree}
-use Rattle.algebra.specs.Word.{exponents, termsBy, terms, isValid, Valid}
+use Rattle.algebra.specs.Word.{exponents, termsBy, terms, isValid, Valid, EachValid}
 use Rattle.algebra.specs.Sum.{Term, term, Sum, isZero, ahead, inOrder, noZero, weight}
 use Rattle.algebra.proofs.Numbers.Test.{and, and-l, and-r, true-is}
 use Rattle.algebra.proofs.Patterns.Word.{exponents-length, valid-test, test-valid}
@@ -123,6 +123,11 @@ good-accepted n s few g = record {
 abbrev pub AllValid : List ℕ → Type 0
 AllValid [] = Unit {0}
 AllValid (w ∷ ws) = Valid w × AllValid ws
+
+pub each-valid : (ws : List ℕ) → AllValid ws → EachValid ws
+each-valid [] valid i h = absurd (omega arith)
+each-valid (w ∷ ws) valid zero h = valid .0
+each-valid (w ∷ ws) valid (suc i) h = each-valid ws (valid .1) i (omega arith)
 
 module _ (before : Sum) (w : ℕ) (c : ℤ) where
   pub fit-good : Valid w → Fit variables before (term c (exponents w)) → T (isGood before w c)

@@ -2,7 +2,7 @@
 use mathlib.Core.Path.{_≡_, refl, sym, _∙_, ap, ap₂}
 use mathlib.Core.Bool.{Bool, true, false, _&&_}
 use mathlib.Core.List.{List, [], _∷_}
-use Prim.Native.Nat.{ℕ, zero, suc, _≤_, _<_}
+use Prim.Native.Nat.{ℕ, _≤_, _<_}
 use native.Mathlib.Omega.{arith}
 use lib.Dec.{T, leb, eqb, leb→le, eqb→eq}
 use lib.IntN.{ℤ}
@@ -10,45 +10,36 @@ use lib.ListN.{length, getD, take, length-map}
 use lib.Seq.{length-take-le}
 use Rattle.algebra.specs.Limits.{variables, largestDegree, mostTerms}
 use Rattle.algebra.specs.Sum.{Sum}
-use Rattle.algebra.specs.Word.{exponents, terms, Valid}
+use Rattle.algebra.specs.Word.{terms}
 use Rattle.algebra.proofs.Numbers.Test.{and-l, and-r}
-use Rattle.algebra.proofs.Patterns.Word.{word-valid, exponents-length}
-use Rattle.algebra.proofs.Patterns.Held.{held-coefficients, held-words}
+use Rattle.algebra.proofs.Patterns.Word.{word-valid}
 use Rattle.algebra.proofs.Sums.Held.{word-for, terms-again}
 use Rattle.algebra.proofs.Sums.Every.{Every, Long, UpTo, degree-every}
 use Rattle.algebra.proofs.Sums.Ordered.{parts}
 use Rattle.answers.specs.Refusals.{SUM}
-use Rattle.answers.specs.Answers.{Told.done, Told.refused, Outcome, outcome, check}
+use Rattle.answers.specs.Answers.{Told.done, Outcome, outcome, check}
 use Rattle.answers.specs.Areas.{written}
+use Rattle.answers.proofs.Judging.{refused-done, done-same}
 use Rattle.answers.proofs.Writes.{written-front}
 use Rattle.numbers.specs.Item.{Item, Item.got, Item.cut, Item.bad}
 use Rattle.packed.specs.Packed.{packed, mostBytes}
 use Rattle.algebra.specs.Accepted.{Accepted}
 use Rattle.packed.specs.ReadSum.{readWhole}
 use Rattle.packed.specs.Pack.{goodTerms, pack}
-use Rattle.algebra.specs.Held.{wordFor, wordsOf, coefficientsOf, firstTerms}
+use Rattle.algebra.specs.Held.{wordsOf, coefficientsOf, firstTerms}
 use Rattle.packed.specs.Whole.{judged}
 use Rattle.packed.specs.Result.{heldInto}
 use Rattle.packed.specs.Unpack.{unpack}
-use Rattle.packed.proofs.Good.{AllValid, accepted-good, good-terms}
+use Rattle.packed.proofs.Good.{AllValid, each-valid, accepted-good, good-terms}
 use Rattle.packed.proofs.Trip.{whole-read, whole-written}
-use Rattle.packed.proofs.Front.{front-length}
+use Rattle.packed.proofs.Front.{front-length, front-words, front-coefficients}
 use Rattle.packed.proofs.Unpacking.{has-room}
 use Rattle.packed.proofs.Packing.{Passed, all-good, accepted}
 
--- ---- Outcomes.
-
-pub refused-done : {r place k : ℕ} → refused r place ≡ done k → ⊥
-refused-done e = let z : _≡_ {A = ℕ} 0 1 = cc in absurd (omega arith)
-
-module _ {Areas : Type 0} {k : ℕ} {y : Areas} where
-  -- where a test refuses, an operation that is done has passed it
-  done-passed : (b : Bool) (x : Outcome Areas) (r place : ℕ) (a : Areas) → check b r place a x ≡ outcome (done k) y → T b × (x ≡ outcome (done k) y)
-  done-passed true x r place a e = (tt, e)
-  done-passed false x r place a e = absurd (refused-done (ap (λ o. o .answer) e))
-
-  done-same : {j : ℕ} {x : Areas} → outcome (done j) x ≡ outcome (done k) y → (j ≡ k) × (x ≡ y)
-  done-same {j} e = (let told : done j ≡ done k = ap (λ o. o .answer) e in cc, ap (λ o. o .areas) e)
+-- where a test refuses, an operation that is done has passed it
+done-passed : {Areas : Type 0} {k : ℕ} {y : Areas} (b : Bool) (x : Outcome Areas) (r place : ℕ) (a : Areas) → check b r place a x ≡ outcome (done k) y → T b × (x ≡ outcome (done k) y)
+done-passed true x r place a e = (tt, e)
+done-passed false x r place a e = absurd (refused-done (ap (λ o. o .answer) e))
 
 -- ---- `unpack` is done exactly with the bytes of an accepted sum.
 
@@ -152,11 +143,6 @@ pack-accepted {count} {ws} {cs} {area} e =
 
 -- ---- Each undoes the other.
 
-all-valid : (ws : List ℕ) → AllValid ws → (i : ℕ) → i < length ws → Valid (getD ws i 0)
-all-valid [] valid i h = absurd (omega arith)
-all-valid (w ∷ ws) valid zero h = valid .0
-all-valid (w ∷ ws) valid (suc i) h = all-valid ws (valid .1) i (omega arith)
-
 words-valid : (s : Sum) → Every (Long variables) s → Every (UpTo largestDegree) s → AllValid (wordsOf s)
 words-valid [] long low = tt
 words-valid (t ∷ s) long low = (rw (word-for (t .pattern) (long .0)) (word-valid (t .pattern) (long .0) (low .0)), words-valid s (long .1) (low .1))
@@ -166,17 +152,12 @@ pub pack-unpack : (count : ℕ) (ws : List ℕ) (cs : List ℤ) (area : List ℕ
     → pack count ws cs area ≡ outcome (done length-done) area'
     → (ws₀ : List ℕ) (cs₀ : List ℤ) → mostTerms ≤ length ws₀ → mostTerms ≤ length cs₀
     → unpack (take length-done area') ws₀ cs₀ ≡ outcome (done count) (written (take count ws) ws₀, written (take count cs) cs₀)
-unfolding terms
 pack-unpack count ws cs area length-done area' e ws₀ cs₀ words-room coefficients-room =
     let p = pack-accepted e in
     let s = firstTerms count ws cs in
     let bytes : take length-done area' ≡ packed s = written-front (packed s) area (p .area-is) (p .many) .0 in
-    let long : length (take count ws) ≡ count = length-take-le count ws (p .words) in
-    let alike : length (take count ws) ≡ length (take count cs) = long ∙ sym (length-take-le count cs (p .coefficients)) in
-    let words : wordsOf s ≡ take count ws =
-    held-words exponents wordFor (take count ws) (take count cs) alike
-    (λ i h. word-for (exponents (getD (take count ws) i 0)) (exponents-length (getD (take count ws) i 0)) ∙ all-valid (take count ws) (p .valid) i h .is) in
-    let coefficients : coefficientsOf s ≡ take count cs = held-coefficients exponents (take count ws) (take count cs) alike in
+    let words = front-words count ws cs (p .words) (p .coefficients) (each-valid (take count ws) (p .valid)) in
+    let coefficients = front-coefficients count ws cs (p .words) (p .coefficients) in
     rw bytes (rw (words, coefficients, front-length count ws cs (p .words) (p .coefficients)) at (unpack-accepts s ws₀ cs₀ (p .accepted) words-room coefficients-room))
 
 -- packing what was unpacked gives the bytes again, in any area with room

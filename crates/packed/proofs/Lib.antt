@@ -3,12 +3,15 @@ pub mod Good
 pub mod Sizes
 pub mod Trip
 pub mod Places
+pub mod Front
 pub mod Last
 pub mod ReadItems
 pub mod TakeTerms
+pub mod WordAt
+pub mod CopyTerms
 pub mod TakeSum
+pub mod Taking
 pub mod Unpacking
-pub mod Front
 pub mod GoodTerms
 pub mod Writing
 pub mod WriteSum

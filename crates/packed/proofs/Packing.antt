@@ -9,6 +9,7 @@ use lib.ListN.{length, take}
 use lib.Seq.{sets, sets-eq, length-take-le}
 use borrow.Author.Tests.{le-leb, lt-leb, eq-eqb, ne-eqb}
 use Rattle.algebra.specs.Limits.{variables, mostTerms}
+use Rattle.algebra.specs.Word.{EachValid}
 use Rattle.answers.specs.Refusals.{ROOM, SHAPE, SUM}
 use Rattle.answers.specs.Answers.{Told.done, Told.refused, outcome}
 use Rattle.answers.specs.Areas.{written}
@@ -16,7 +17,7 @@ use Rattle.packed.specs.Packed.{packed, mostBytes}
 use Rattle.algebra.specs.Accepted.{Accepted}
 use Rattle.packed.specs.Pack.{goodTerms, pack}
 use Rattle.algebra.specs.Held.{firstTerms}
-use Rattle.packed.proofs.Good.{AllValid, good-accepted, good-most, terms-good}
+use Rattle.packed.proofs.Good.{AllValid, each-valid, good-accepted, good-most, terms-good}
 use Rattle.packed.proofs.Sizes.{packed-most}
 use Rattle.packed.proofs.Front.{front-length}
 
@@ -72,6 +73,9 @@ module _ {count : ℕ} {ws : List ℕ} {cs : List ℤ} {area : List ℕ} (p : Pa
   accepted h =
       let all = terms-good [] (take count ws) (take count cs) (h ∙ sym (length-take-le count ws (p .words))) in
       (all .0, good-accepted variables (firstTerms count ws cs) (rw sum-long (p .few)) (all .1))
+
+  pub every-valid : goodTerms [] (take count ws) (take count cs) ≡ count → EachValid (take count ws)
+  every-valid h = each-valid (take count ws) (accepted h .0)
 
   pub has-room : goodTerms [] (take count ws) (take count cs) ≡ count → 0 + length (packed (firstTerms count ws cs)) ≤ length area
   has-room h = omega (arith, p .room, packed-most variables (firstTerms count ws cs) (accepted h .1))

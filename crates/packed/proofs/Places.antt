@@ -26,11 +26,11 @@ use Rattle.packed.specs.ReadSum.{readCoefficient, readExponents, readTer
 use Rattle.packed.proofs.Sizes.{term-length}
 use Rattle.packed.proofs.Trip.{term-written}
 
-end-place : {A : Type 0} {r : Item A} {a : A} {end most : ℕ} → placeOf r ≤ most → r ≡ got a end → end ≤ most
+pub end-place : {A : Type 0} {r : Item A} {a : A} {end most : ℕ} → placeOf r ≤ most → r ≡ got a end → end ≤ most
 end-place h e = rw e at h
 
 module _ (s : List ℕ) (byte : (i : ℕ) → getD s i 0 < 256) where
-  number-place : (at : ℕ) → placeOf (readNumber s at) ≤ at + mostGroups
+  pub number-place : (at : ℕ) → placeOf (readNumber s at) ≤ at + mostGroups
   number-place at = go (readNumber s at) refl
     where
       go : (r : Item ℕ) → readNumber s at ≡ r → placeOf r ≤ at + mostGroups

@@ -1,5 +1,5 @@
 -- What an operation knows that reads packed sums and answers with one: each sum, or its fault; and that the result is written.
-use mathlib.Core.Path.{_≡_, refl, sym, _∙_, ap, ap₂}
+use mathlib.Core.Path.{_≡_, refl, sym, _∙_, ap, ap₂, subst}
 use mathlib.Core.List.{List, [], _∷_}
 use Prim.Native.Nat.{ℕ, _+_, _≤_, _<_}
 use native.Mathlib.Omega.{arith}
@@ -24,24 +24,27 @@ use Rattle.answers.specs.Judge.{Judged, Judged.good, Judged.fails, andThen}
 use Rattle.answers.specs.declared.Answer.{Answer}
 use Rattle.answers.specs.declared.Answer.the-variants.{Done, Refused}
 use Rattle.answers.proofs.Answer.{the-type}
-use Rattle.answers.proofs.Judging.{then-good, then-fails}
+use Rattle.answers.proofs.Judging.{then-good, then-fails, refused-done}
 use Rattle.answers.proofs.Writes.{written-front}
-use Rattle.numbers.specs.Item.{Item, Item.got, Item.cut, Item.bad, mapped}
+use Rattle.numbers.specs.Item.{Item, Item.got, Item.cut, Item.bad, mapped, placeOf}
 use Rattle.numbers.specs.Read.{itemOf}
 use Rattle.numbers.specs.declared.Read.{Read}
 use Rattle.numbers.specs.declared.Read.the-variants.{Value}
 use Rattle.numbers.proofs.Read.{the-type as read-type}
-use Rattle.numbers.proofs.Items.{Alike, stopped, answered}
+use Rattle.numbers.proofs.Items.{Alike, Alike.both-cut, Alike.both-bad, alike-then, stopped, answered, number-stopped}
 use Rattle.packed.specs.Packed.{packed, mostBytes}
 use Rattle.packed.specs.ReadSum.{readWhole}
-use Rattle.packed.specs.Held.{readInto}
-use Rattle.packed.specs.Whole.{judged}
+use Rattle.packed.specs.Held.{readInto, readCount, readRest}
+use Rattle.packed.specs.Whole.{judged, fault}
 use Rattle.packed.specs.Unpack.{unpack}
-use Rattle.packed.specs.Result.{heldInto, packedInto}
+use Rattle.packed.specs.Result.{heldInto, wholeInto, packedInto}
 use Rattle.packed.proofs.Sizes.{packed-most}
 use Rattle.packed.proofs.Trip.{whole-read, whole-written}
-use Rattle.packed.proofs.Unpacking.{has-room}
-use Rattle.packed.proofs.Inverse.{refused-done, Unpacks, unpack-accepted}
+use Rattle.packed.proofs.Places.{place-small}
+use Rattle.packed.proofs.TakeSum.{whole-split, whole-rest}
+use Rattle.packed.proofs.Taking.{ReadAt}
+use Rattle.packed.proofs.Unpacking.{has-room, is-done, whole-refused, whole-done}
+use Rattle.packed.proofs.Inverse.{Unpacks, unpack-accepted}
 
 -- ---- The bytes that are given.
 
@@ -61,6 +64,11 @@ fault-judged refusal (is-bad e) = ap (judged refusal) e
 
 pub sum-judged : {bytes : List ℕ} {s : Sum} → PackedSum bytes s → judged SUM (readWhole variables bytes) ≡ good s
 sum-judged {bytes} {s} p = ap (λ l. judged SUM (readWhole variables l)) (p .bytes-are) ∙ ap (judged SUM) (whole-read variables s (p .accepted))
+
+-- the place fits in two bytes, as a host's number needs it
+pub fault-small : (bytes : List ℕ) → ((i : ℕ) → getD bytes i 0 < 256) → {place : ℕ} → AtFault (readWhole variables bytes) place → place < 65536
+fault-small bytes byte (is-cut e) = omega (arith, place-small bytes byte, ap placeOf e)
+fault-small bytes byte (is-bad e) = omega (arith, place-small bytes byte, ap placeOf e)
 
 -- one of the two
 pub data Reading (bytes : List ℕ) : Type 0 where
@@ -117,6 +125,40 @@ unpack-refused {bytes} ws cs {ws'} {cs'} words coefficients (Refused refusal p) 
     go (cut place) read e = record { place = place; says = ap (λ o. o .answer) e; fault = is-cut read }
     go (bad place) read e = record { place = place; says = ap (λ o. o .answer) e; fault = is-bad read }
 
+-- ---- What `read_count` and `take_whole` answer, one after the other.
+
+handed : {bytes : List ℕ} {x : Item ℕ} {t : Told} → Alike x (readWhole variables bytes) → t ≡ fault SUM x → Handed bytes t
+handed {bytes} {x} {t} a says = go (readWhole variables bytes) refl a says
+  where
+    go : {x : Item ℕ} (item : Item Sum) → readWhole variables bytes ≡ item → Alike x item → t ≡ fault SUM x → Handed bytes t
+    go (cut place) read both-cut says = record { place = place; says = says; fault = is-cut read }
+    go (bad place) read both-bad says = record { place = place; says = says; fault = is-bad read }
+
+pub count-refused : (bytes : List ℕ) (r : Read) → OneOf (1 ∷ 2 ∷ []) (tagOf read-type r) → itemOf r ≡ readCount bytes 0 → {t : Told} → t ≡ fault SUM (itemOf r) → Handed bytes t
+count-refused bytes r keys e says = handed (subst (Alike (itemOf r)) (sym (whole-split variables bytes)) (alike-then _ (number-stopped r keys (readCount bytes 0) e))) says
+
+-- the sum that two arrays hold
+pub record Whole (bytes ws : List ℕ) (cs : List ℤ) (ws' : List ℕ) (cs' : List ℤ) (count : ℕ) : Type 0 where
+  pub sum : Sum
+  pub of-bytes : PackedSum bytes sum
+  pub many : length sum ≡ count
+  pub words-are : ws' ≡ written (wordsOf sum) ws
+  pub coefficients-are : cs' ≡ written (coefficientsOf sum) cs
+
+module _ (bytes : List ℕ) {count next : ℕ} (counted : readCount bytes 0 ≡ got count next) (ws : List ℕ) (cs : List ℤ) {ws' : List ℕ} {cs' : List ℤ} (r : Answer)
+    (e : outcome (told r) (ws', cs') ≡ wholeInto count (judged SUM (readRest variables count bytes next)) ws cs) where
+  pub rest-refused : OneOf (1 ∷ []) (tagOf the-type r) → Handed bytes (told r)
+  rest-refused key =
+      let stop = whole-refused count bytes next ws cs r key e in
+      handed (subst (Alike (stop .0)) (sym (whole-rest variables bytes counted)) (stop .1)) (stop .2)
+
+  pub rest-taken : ((i : ℕ) → getD bytes i 0 < 256) → OneOf (0 ∷ []) (tagOf the-type r) → Whole bytes ws cs ws' cs' count
+  rest-taken byte key =
+      let all = whole-done count bytes next ws cs r (is-done r key .is) e in
+      let t = all .2 in
+      let w = whole-written bytes byte variables (t .sum) (all .0) (whole-rest variables bytes counted ∙ t .read) in
+      record { sum = t .sum; of-bytes = record { accepted = w .1; bytes-are = w .0 }; many = t .many; words-are = t .words-are; coefficients-are = t .coefficients-are }
+
 -- ---- What `read_sum` answers: the fault that was met, or the sum that the areas hold.
 
 counted : (item : Item Sum) (ws : List ℕ) (cs : List ℤ) → readInto item ws cs .0 ≡ mapped length item
@@ -124,13 +166,6 @@ unfolding readInto mapped
 counted (got s next) ws cs = refl
 counted (cut place) ws cs = refl
 counted (bad place) ws cs = refl
-
-pub record ReadAt (item : Item Sum) (ws : List ℕ) (cs : List ℤ) (ws' : List ℕ) (cs' : List ℤ) (count end : ℕ) : Type 0 where
-  pub sum : Sum
-  pub read : item ≡ got sum end
-  pub many : length sum ≡ count
-  pub words-are : ws' ≡ written (wordsOf sum) ws
-  pub coefficients-are : cs' ≡ written (coefficientsOf sum) cs
 
 module _ (r : Read) (item : Item Sum) (ws : List ℕ) (cs : List ℤ) {ws' : List ℕ} {cs' : List ℤ} (e : (itemOf r, ws', cs') ≡ readInto item ws cs) where
   pub into-stopped : OneOf (1 ∷ 2 ∷ []) (tagOf read-type r) → Alike (itemOf r) item

@@ -16,12 +16,14 @@ use Rattle.packed.specs.Packed.{exponentBytes, termBytes, bytesOfTerms, 
 use Rattle.algebra.specs.Accepted.{Accepted}
 use Rattle.packed.proofs.Good.{Fit, weighs-light, Good, Good.none, Good.more, accepted-good}
 
--- an exponent takes one byte
-pub exponent-bytes-length : (p : Pattern) → degree p ≤ largestDegree → length (exponentBytes p) ≡ length p
+-- an exponent takes one byte, which is the exponent itself
+pub exponent-bytes-are : (p : Pattern) → degree p ≤ largestDegree → exponentBytes p ≡ p
 unfolding exponentBytes degree
-exponent-bytes-length [] low = refl
-exponent-bytes-length (e ∷ p) low =
-    rw (number-one e (omega arith)) (ap suc (exponent-bytes-length p (omega arith)))
+exponent-bytes-are [] low = refl
+exponent-bytes-are (e ∷ p) low = rw (number-one e (omega arith), exponent-bytes-are p (omega arith))
+
+pub exponent-bytes-length : (p : Pattern) → degree p ≤ largestDegree → length (exponentBytes p) ≡ length p
+exponent-bytes-length p low = ap length (exponent-bytes-are p low)
 
 pub term-length : {n : ℕ} {before : Sum} (t : Term) → Fit n before t → length (termBytes t) ≤ mostTermBytes n
 unfolding termBytes

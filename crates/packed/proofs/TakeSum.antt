@@ -1,41 +1,74 @@
--- A packed sum: its count, and then its terms.
-use mathlib.Core.Path.{_≡_, sym, _∙_, ap}
+-- A packed sum in two steps: its count, and then its terms.
+use mathlib.Core.Path.{_≡_, refl, sym, _∙_, ap}
+use mathlib.Core.Bool.{Bool, true, false}
 use mathlib.Core.List.{List, [], _∷_}
 use Prim.Native.Nat.{ℕ, zero, suc, _≤_, _<_}
 use native.Mathlib.Omega.{arith}
 use lib.Dec.{leb, leb→le, le→leb}
-use lib.IntN.{ℤ}
 use lib.ListN.{length}
 use Rattle.algebra.specs.Limits.{mostTerms}
 use Rattle.algebra.specs.Sum.{Sum}
-use Rattle.numbers.specs.Item.{Item, Item.got, Item.bad, mapped}
+use Rattle.numbers.specs.Item.{Item, Item.got, Item.cut, Item.bad, andThen, provided}
 use Rattle.numbers.specs.Number.{readNumber}
-use Rattle.numbers.proofs.Items.{then-got, provided-yes, provided-no, through, passed, came-from, got-value, Alike, alike-then, alike-mapped, alike-same}
-use Rattle.packed.specs.ReadSum.{readTerms, readSum}
-use Rattle.packed.specs.Held.{Holds}
+use Rattle.numbers.proofs.Items.{then-got, then-then, provided-yes, provided-no, through, passed, came-from, got-value, carry, Alike, alike-then, alike-same}
+use Rattle.packed.specs.ReadSum.{readTerms, readSum, readWhole}
+use Rattle.packed.specs.Held.{readCount, readRest}
 
-pub count-stops : (n : ℕ) (s : List ℕ) (at : ℕ) {x : Item ℕ} → Alike x (readNumber s at) → x ≡ mapped length (readSum n s at)
-unfolding readSum
-count-stops n s at a = alike-same (alike-mapped length (alike-then _ a))
+-- ---- The count.
 
-module _ (n : ℕ) (s : List ℕ) (at count next : ℕ) (read : readNumber s at ≡ got count next) where
-  pub too-many : mostTerms < count → bad at ≡ mapped length (readSum n s at)
-  unfolding readSum mapped
-  too-many h = sym (ap (mapped length) (then-got _ read ∙ provided-no at _ (leb count mostTerms) (λ t. omega (arith, leb→le count mostTerms t))))
+pub count-stops : (s : List ℕ) (at : ℕ) {x : Item ℕ} → Alike x (readNumber s at) → x ≡ readCount s at
+unfolding readCount
+count-stops s at a = alike-same (alike-then _ a)
 
-  terms-follow : count ≤ mostTerms → readSum n s at ≡ readTerms n count [] s next
-  unfolding readSum
-  terms-follow h = then-got _ read ∙ provided-yes at _ (leb count mostTerms) (le→leb count mostTerms h)
+module _ (s : List ℕ) (at : ℕ) {count next : ℕ} (read : readNumber s at ≡ got count next) where
+  pub count-over : mostTerms < count → bad at ≡ readCount s at
+  unfolding readCount
+  count-over h = sym (then-got _ read ∙ provided-no at _ (leb count mostTerms) (λ t. omega (arith, leb→le count mostTerms t)))
 
-  -- what is answered of the terms is answered of the sum
-  pub of-terms : {x : Item ℕ} {ws₀ : List ℕ} {cs₀ : List ℤ} {ws : List ℕ} {cs : List ℤ} → count ≤ mostTerms
-      → (x ≡ mapped length (readTerms n count [] s next)) × (Holds (readTerms n count [] s next) ws₀ cs₀ ws cs)
-      → (x ≡ mapped length (readSum n s at)) × (Holds (readSum n s at) ws₀ cs₀ ws cs)
-  of-terms h p = rw (terms-follow h) p
+  pub count-taken : count ≤ mostTerms → got count next ≡ readCount s at
+  unfolding readCount
+  count-taken h = sym (then-got _ read ∙ provided-yes at _ (leb count mostTerms) (le→leb count mostTerms h))
+
+pub count-few : (s : List ℕ) (at : ℕ) {count next : ℕ} → readCount s at ≡ got count next → count ≤ mostTerms
+unfolding readCount
+count-few s at e =
+    let number = through _ _ _ _ e in
+    let judged = passed _ _ _ _ _ (number .second) in
+    carry (λ (n : ℕ) (next : ℕ). n ≤ mostTerms) (judged .1) (leb→le (number .value) mostTerms (judged .0))
+
+-- ---- The terms after it.
+
+split-count : (at : ℕ) (f : ℕ → ℕ → Item Sum) (r : Item ℕ)
+    → andThen r (λ count next. provided (leb count mostTerms) at (f count next)) ≡ andThen (andThen r (λ count next. provided (leb count mostTerms) at (got count next))) f
+unfolding andThen provided
+split-count at f (got count next) = go (leb count mostTerms)
+  where
+    go : (b : Bool) → provided b at (f count next) ≡ andThen (provided b at (got count next)) f
+    go true = refl
+    go false = refl
+split-count at f (cut place) = refl
+split-count at f (bad place) = refl
+
+module _ (n : ℕ) (s : List ℕ) where
+  pub sum-split : (at : ℕ) → readSum n s at ≡ andThen (readCount s at) (λ count next. readTerms n count [] s next)
+  unfolding readSum readCount
+  sum-split at = split-count at (λ count next. readTerms n count [] s next) (readNumber s at)
+
+  pub whole-split : readWhole n s ≡ andThen (readCount s 0) (λ count next. readRest n count s next)
+  unfolding readWhole readRest
+  whole-split =
+      ap (λ r. andThen r (λ sum end. provided (leb (length s) end) end (got sum end))) (sum-split 0)
+      ∙ then-then (readCount s 0) (λ count next. readTerms n count [] s next) (λ sum end. provided (leb (length s) end) end (got sum end))
+
+  pub sum-terms : (at : ℕ) {count next : ℕ} → readCount s at ≡ got count next → readSum n s at ≡ readTerms n count [] s next
+  sum-terms at counted = sum-split at ∙ then-got _ counted
+
+  pub whole-rest : {count next : ℕ} → readCount s 0 ≡ got count next → readWhole n s ≡ readRest n count s next
+  whole-rest counted = whole-split ∙ then-got _ counted
 
 -- ---- How many terms.
 
-terms-many : (n left : ℕ) (before sum : Sum) (s : List ℕ) (at end : ℕ) → readTerms n left before s at ≡ got sum end → length sum ≡ left
+pub terms-many : (n left : ℕ) (before sum : Sum) (s : List ℕ) (at end : ℕ) → readTerms n left before s at ≡ got sum end → length sum ≡ left
 unfolding readTerms
 terms-many n zero before sum s at end e = ap length (sym (got-value e))
 terms-many n (suc left) before sum s at end e =
@@ -43,9 +76,9 @@ terms-many n (suc left) before sum s at end e =
     let rest = came-from _ _ _ _ (first .second) in
     ap length (sym (rest .shown)) ∙ ap suc (terms-many n left (first .value ∷ before) (rest .value) s (first .next) end (rest .is))
 
-pub sum-few : (n : ℕ) (sum : Sum) (s : List ℕ) (at end : ℕ) → readSum n s at ≡ got sum end → length sum ≤ mostTerms
-unfolding readSum
-sum-few n sum s at end e =
-    let count = through _ _ _ _ e in
-    let judged = passed _ _ _ _ _ (count .second) in
-    omega (arith, terms-many n (count .value) [] sum s (count .next) end (judged .1), leb→le (count .value) mostTerms (judged .0))
+pub rest-many : (n count : ℕ) (sum : Sum) (s : List ℕ) (at end : ℕ) → readRest n count s at ≡ got sum end → length sum ≡ count
+unfolding readRest
+rest-many n count sum s at end e =
+    let all = through _ _ _ _ e in
+    let last = passed _ _ _ _ _ (all .second) in
+    carry (λ (sum : Sum) (end : ℕ). length sum ≡ count) (last .1) (terms-many n count [] (all .value) s at (all .next) (all .first))

@@ -7,7 +7,7 @@ use native.Mathlib.Omega.{arith}
 use native.Mathlib.Nat.{add-comm}
 use lib.Dec.{eqb}
 use lib.IntN.{ℤ, natAbs}
-use lib.ListN.{length, set, length-set, length-map}
+use lib.ListN.{length, take, set, length-set, length-map}
 use Rattle.algebra.specs.Limits.{variables, largestDegree, largestWeight}
 use Rattle.algebra.specs.Pattern.{emptyPattern, filled, degree, order}
 use Rattle.algebra.specs.Sum.{Term, term, Sum, isBefore, weight}
@@ -15,7 +15,7 @@ use Rattle.algebra.specs.Word.{word, exponents, Valid}
 use Rattle.algebra.proofs.Patterns.Laws.{filled-length, filled-degree}
 use Rattle.algebra.proofs.Patterns.Word.{word-valid, exponents-word}
 use Rattle.answers.specs.Areas.{written}
-use Rattle.answers.proofs.Writes.{written-next}
+use Rattle.answers.proofs.Writes.{written-next, written-kept}
 use Rattle.numbers.specs.Item.{Item, Item.got, Item.bad, provided, mapped}
 use Rattle.numbers.specs.Code.{code, decode}
 use Rattle.numbers.proofs.Items.{then-got, mapped-id, mapped-mapped, through, passed, got-value, From, Alike, Alike.both-cut, Alike.both-bad, alike-then, alike-mapped, alike-same}
@@ -53,6 +53,12 @@ onto-written f before t area k e h =
     ap (λ (i : ℕ). set (written (map f (onto before [])) area) i (f t)) (sym long)
     ∙ written-next (map f (onto before [])) area (f t) (omega arith)
     ∙ ap (λ l. written l area) (sym (map-append f (onto before []) (t ∷ [])) ∙ ap (map f) (sym (onto-rest before (t ∷ []))))
+
+-- what met a fault has read no sum
+no-sum : {A : Type 0} {all : Item Sum} {x : Item ℕ} {y : Item A} → Alike x y → x ≡ mapped length all → {sum : Sum} {end : ℕ} → all ≡ got sum end → ⊥
+unfolding mapped
+no-sum both-cut e is = let z : _≡_ {A = ℕ} 0 1 = cc in omega arith
+no-sum both-bad e is = let z : _≡_ {A = ℕ} 0 1 = cc in omega arith
 
 -- ---- The loop.
 
@@ -96,6 +102,17 @@ start s at n count words coefficients w e most enough room =
 
 module _ {s : List ℕ} {at n count : ℕ} {words₀ : List ℕ} {coefficients₀ : List ℤ} {words : List ℕ} {coefficients : List ℤ} {place total last k : ℕ}
     (t : Takes s at n count words₀ coefficients₀ words coefficients place total last k) where
+  -- whatever comes, only the first `count` places are other than before
+  words-kept : words ≡ written (take count words) words₀
+  words-kept =
+      let many = length-map (onto (t .before) []) (λ (u : Term). wordFor (u .pattern)) in
+      written-kept (wordsOf (onto (t .before) [])) words₀ count (t .words-are) (omega (arith, many, onto-length (t .before) [], t .many, t .inside)) (omega (arith, t .words-room, t .same-words))
+
+  coefficients-kept : coefficients ≡ written (take count coefficients) coefficients₀
+  coefficients-kept =
+      let many = length-map (onto (t .before) []) (λ (u : Term). u .coefficient) in
+      written-kept (coefficientsOf (onto (t .before) [])) coefficients₀ count (t .coefficients-are) (omega (arith, many, onto-length (t .before) [], t .many, t .inside)) (omega (arith, t .coefficients-room, t .same-coefficients))
+
   -- what is left begins with a term
   next-left : k < count → readTerms n count [] s at ≡ mapped (onto (t .before)) (readTerms n (suc (count - (k + 1))) (t .before) s place)
   next-left h =
@@ -193,22 +210,27 @@ module _ {s : List ℕ} {at n count : ℕ} {words₀ : List ℕ} {coefficients�
       let none : count - k ≡ 0 = omega arith in
       t .left ∙ ap (λ (i : ℕ). mapped (onto (t .before)) (readTerms n i (t .before) s place)) none
 
-  pub ended : count ≤ k → (got count place ≡ mapped length (readTerms n count [] s at)) × (Holds (readTerms n count [] s at) words₀ coefficients₀ words coefficients)
+  pub ended : count ≤ k → (got count place ≡ mapped length (readTerms n count [] s at)) × (Holds count (readTerms n count [] s at) words₀ coefficients₀ words coefficients)
   unfolding mapped
   ended h = (
     sym (ap (mapped length) (all-read h) ∙ ap (λ (n : ℕ). got n place) (omega (arith, onto-length (t .before) [], t .many, t .inside))),
     record {
+      words-kept = words-kept;
+      coefficients-kept = coefficients-kept;
       words-are = λ sum end e. t .words-are ∙ ap (λ l. written (wordsOf l) words₀) (got-value (sym (all-read h) ∙ e));
       coefficients-are = λ sum end e. t .coefficients-are ∙ ap (λ l. written (coefficientsOf l) coefficients₀) (got-value (sym (all-read h) ∙ e));
     },
   )
 
--- a refusal says nothing of the arrays: the terms were not all read
-no-sum : {A : Type 0} {all : Item Sum} {x : Item ℕ} {y : Item A} → Alike x y → x ≡ mapped length all → {sum : Sum} {end : ℕ} → all ≡ got sum end → ⊥
-unfolding mapped
-no-sum both-cut e is = let z : _≡_ {A = ℕ} 0 1 = cc in omega arith
-no-sum both-bad e is = let z : _≡_ {A = ℕ} 0 1 = cc in omega arith
-
-pub refuses : {A : Type 0} {all : Item Sum} {x : Item ℕ} {y : Item A} {ws₀ : List ℕ} {cs₀ : List ℤ} {ws : List ℕ} {cs : List ℤ} → Alike x y → x ≡ mapped length all
-    → (x ≡ mapped length all) × (Holds all ws₀ cs₀ ws cs)
-refuses a e = (e, record { words-are = λ sum end is. absurd (no-sum a e is); coefficients-are = λ sum end is. absurd (no-sum a e is) })
+  -- a refusal says nothing more of the arrays: the terms were not all read
+  pub refuses : {A : Type 0} {x : Item ℕ} {y : Item A} → Alike x y → x ≡ mapped length (readTerms n count [] s at)
+      → (x ≡ mapped length (readTerms n count [] s at)) × (Holds count (readTerms n count [] s at) words₀ coefficients₀ words coefficients)
+  refuses a e = (
+    e,
+    record {
+      words-kept = words-kept;
+      coefficients-kept = coefficients-kept;
+      words-are = λ sum end is. absurd (no-sum a e is);
+      coefficients-are = λ sum end is. absurd (no-sum a e is);
+    },
+  )

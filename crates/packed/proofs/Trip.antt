@@ -59,7 +59,7 @@ module _ (s : List ℕ) where
       ∙ provided-yes at _ (follows before p) (f .after)
       ∙ ap (got t) (omega (arith, length-append (numberBytes (code c)) (exponentBytes p)))
 
-  terms-read : (n : ℕ) (before sum : Sum) (at : ℕ) (rest : List ℕ) → Good n before sum → drop at s ≡ bytesOfTerms sum ++ rest
+  pub terms-read : (n : ℕ) (before sum : Sum) (at : ℕ) (rest : List ℕ) → Good n before sum → drop at s ≡ bytesOfTerms sum ++ rest
       → readTerms n (length sum) before s at ≡ got sum (at + length (bytesOfTerms sum))
   unfolding readTerms bytesOfTerms
   terms-read n before [] at rest g e = ap (got []) (omega arith)

@@ -4,10 +4,13 @@ use mathlib.Core.List.{List}
 use Prim.Native.Nat.{ℕ}
 use lib.IntN.{ℤ}
 use denote.Ref.{now}
-use Rattle.answers.proofs.Outcomes.{OneLent, same}
-use Rattle.answers.proofs.Unique.{outcome-one}
+use Rattle.answers.proofs.Outcomes.{One, OneLent, same}
+use Rattle.answers.proofs.Unique.{told-one, outcome-one}
 use Rattle.numbers.proofs.Unique.{item-one}
+use Rattle.packed.proofs.read_count.Reads as read-count
 use Rattle.packed.proofs.read_sum.Reads as read-sum
+use Rattle.packed.proofs.refused.Reads as refused
+use Rattle.packed.proofs.take_whole.Reads as take-whole
 use Rattle.packed.proofs.unpack.Reads as unpack
 use Rattle.packed.proofs.pack.Reads as pack
 use Rattle.packed.proofs.writer.write_sum.Reads as write-sum
@@ -20,6 +23,15 @@ pub pack-one : OneLent pack.Learnt (λ k e. now (e .1 .1 .1 .0))
 pack-one k a r r' e e' h h' = outcome-one r r' (same h h')
 
 -- what other crates call
+pub read-count-one : One read-count.Learnt
+read-count-one k a r r' e e' h h' = item-one r r' (same h h')
+
+pub refused-one : One refused.Learnt
+refused-one k a r r' e e' h h' = told-one r r' (same h h')
+
+pub take-whole-one : OneLent take-whole.Learnt {L = List ℕ × List ℤ} (λ k e. (now (e .1 .1 .1 .0), now (e .1 .1 .1 .1 .0)))
+take-whole-one k a r r' e e' h h' = outcome-one r r' (same h h')
+
 pub read-sum-one : OneLent read-sum.Learnt {L = List ℕ × List ℤ} (λ k e. (now (e .1 .1 .0), now (e .1 .1 .1 .0)))
 read-sum-one k a r r' e e' h h' =
     let all = same h h' in

@@ -1,57 +1,46 @@
--- What the reader of a sum and `unpack` leave in lent areas, once the terms stand in arrays of their own.
-use mathlib.Core.Path.{_≡_, refl, sym, _∙_, ap}
-use mathlib.Core.List.{List}
+-- What the readers of a whole sum and `unpack` leave behind, once the terms stand in arrays of the caller's own.
+use mathlib.Core.Path.{_≡_, refl, sym, _∙_, ap, ap₂, subst}
+use mathlib.Core.List.{List, [], _∷_}
 use Prim.Native.Nat.{ℕ, _≤_, _<_}
 use native.Mathlib.Omega.{arith}
+use types.Run.{OneOf}
+use denote.Enum.Declared.{tagOf}
 use borrow.Author.Tests.{le-leb, lt-leb}
 use lib.Dec.{leb, leb→le, le→leb}
-use lib.IntN.{ℤ}
-use lib.ListN.{length, take, length-map}
+use lib.IntN.{ℤ, pos}
+use lib.ListN.{length, take, length-map, length-replicate, replicate}
 use Rattle.algebra.specs.Limits.{variables, mostTerms}
-use Rattle.algebra.specs.Sum.{Sum}
-use Rattle.answers.specs.Refusals.{ROOM, SUM}
-use Rattle.answers.specs.Answers.{Told.done, Told.refused, outcome}
-use Rattle.answers.specs.Areas.{written}
-use Rattle.answers.proofs.Writes.{written-front}
-use Rattle.numbers.specs.Item.{Item, Item.got}
-use Rattle.numbers.proofs.Items.{From, Alike, Alike.both-cut, Alike.both-bad, alike-then, then-got, provided-yes, provided-no}
-use Rattle.packed.specs.ReadSum.{readSum, readWhole}
-use Rattle.algebra.specs.Held.{wordsOf, coefficientsOf}
-use Rattle.packed.specs.Held.{Holds, readInto}
+use Rattle.algebra.specs.Sum.{Term, Sum}
+use Rattle.algebra.specs.Held.{wordFor, wordsOf, coefficientsOf}
+use Rattle.answers.specs.Refusals.{ROOM, SUM, number}
+use Rattle.answers.specs.Answers.{Told, Told.done, Told.refused, told, outcome}
+use Rattle.answers.specs.Areas.{written, cleared}
+use Rattle.answers.specs.declared.Answer.{Answer}
+use Rattle.answers.specs.declared.Answer.the-variants.{Done, Refused}
+use Rattle.answers.proofs.Answer.{the-type}
+use Rattle.answers.proofs.Judging.{refused-done, done-same}
+use Rattle.answers.proofs.Writes.{written-front, written-over}
+use Rattle.numbers.specs.Item.{Item, Item.got, Item.cut, Item.bad}
+use Rattle.numbers.specs.Read.{itemOf}
+use Rattle.numbers.specs.declared.Read.{Read}
+use Rattle.numbers.specs.declared.Read.the-variants.{Value}
+use Rattle.numbers.proofs.Items.{Alike, Alike.both-cut, Alike.both-bad, alike-then, then-got, provided-yes, provided-no}
+use Rattle.packed.specs.ReadSum.{readTerms, readSum, readWhole}
+use Rattle.packed.specs.Held.{readInto, readCount, readRest}
 use Rattle.packed.specs.Whole.{judged, fault}
-use Rattle.packed.specs.Result.{heldInto}
+use Rattle.packed.specs.Result.{heldInto, wholeInto}
 use Rattle.packed.specs.Unpack.{unpack}
-use Rattle.packed.proofs.TakeSum.{sum-few}
+use Rattle.packed.proofs.TakeSum.{sum-split, sum-terms, whole-split, whole-rest, terms-many, rest-many}
+use Rattle.packed.proofs.Taking.{ReadAt}
 
--- ---- The terms that were read, in two arrays and then in the areas.
+-- ---- What two arrays hold goes to two areas.
 
--- the arrays hold them, and have room for every sum
-pub record Taken (s : List ℕ) (at : ℕ) (words : List ℕ) (coefficients : List ℤ) (count end : ℕ) : Type 0 where
-  pub sum : Sum
-  pub read : readSum variables s at ≡ got sum end
-  pub many : length sum ≡ count
-  pub few : count ≤ mostTerms
-  pub words-held : take count words ≡ wordsOf sum
-  pub coefficients-held : take count coefficients ≡ coefficientsOf sum
-  pub words-long : count ≤ length words
-  pub coefficients-long : count ≤ length coefficients
+module _ {item : Item Sum} {ws₀ : List ℕ} {cs₀ : List ℤ} {ws : List ℕ} {cs : List ℤ} {n end : ℕ} (t : ReadAt item ws₀ cs₀ ws cs n end) {count : ℕ} (many : length (t .sum) ≡ count) where
+  words-first : (take count ws ≡ wordsOf (t .sum)) × (count ≤ length ws)
+  words-first = written-front (wordsOf (t .sum)) ws₀ (t .words-are) (length-map (t .sum) _ ∙ many)
 
-pub taken : (s : List ℕ) (at : ℕ) (words₀ : List ℕ) (coefficients₀ : List ℤ) {words : List ℕ} {coefficients : List ℤ} {count end : ℕ}
-    → From length (readSum variables s at) count end → Holds (readSum variables s at) words₀ coefficients₀ words coefficients → Taken s at words coefficients count end
-taken s at words₀ coefficients₀ {words} {coefficients} {count} {end} from held =
-    let sum = from .value in
-    let of-words = written-front (wordsOf sum) words₀ (held .words-are sum end (from .is)) (length-map sum _ ∙ from .shown) in
-    let of-coefficients = written-front (coefficientsOf sum) coefficients₀ (held .coefficients-are sum end (from .is)) (length-map sum _ ∙ from .shown) in
-    record {
-      sum = sum;
-      read = from .is;
-      many = from .shown;
-      few = omega (arith, sum-few variables sum s at end (from .is), from .shown);
-      words-held = of-words .0;
-      coefficients-held = of-coefficients .0;
-      words-long = of-words .1;
-      coefficients-long = of-coefficients .1;
-    }
+  coefficients-first : (take count cs ≡ coefficientsOf (t .sum)) × (count ≤ length cs)
+  coefficients-first = written-front (coefficientsOf (t .sum)) cs₀ (t .coefficients-are) (length-map (t .sum) _ ∙ many)
 
 -- ---- `read_sum`.
 
@@ -60,19 +49,136 @@ unfolding readInto
 into-stops ws cs both-cut = refl
 into-stops ws cs both-bad = refl
 
--- the areas after the copies of what the arrays hold
-pub into-areas : {s : List ℕ} {at : ℕ} {words : List ℕ} {coefficients : List ℤ} {count end : ℕ} → Taken s at words coefficients count end
-    → (ws : List ℕ) (cs : List ℤ) {ws' : List ℕ} {cs' : List ℤ} → ws' ≡ written (take count words) ws → cs' ≡ written (take count coefficients) cs
-    → (got count end, ws', cs') ≡ readInto (readSum variables s at) ws cs
-unfolding readInto
-into-areas t ws cs words-are coefficients-are = rw (t .read, t .many, words-are, coefficients-are, t .words-held, t .coefficients-held)
+-- the arrays have a place for each term
+pub terms-room : (count : ℕ) (s : List ℕ) (next : ℕ) {ws₀ : List ℕ} {cs₀ : List ℤ} {ws : List ℕ} {cs : List ℤ} {n end : ℕ} → ReadAt (readTerms variables count [] s next) ws₀ cs₀ ws cs n end
+    → (count ≤ length ws) × (count ≤ length cs)
+terms-room count s next {ws₀} {cs₀} {ws} {cs} {n} {end} t =
+    let many = terms-many variables count [] (t .sum) s next end (t .read) in
+    (words-first t many .1, coefficients-first t many .1)
+
+module _ (s : List ℕ) (at : ℕ) where
+  -- a fault of the count, or of the terms, is one of the sum
+  pub count-faulty : {x : Item ℕ} → Alike x (readCount s at) → Alike x (readSum variables s at)
+  count-faulty {x} a = subst (Alike x) (sym (sum-split variables s at)) (alike-then _ a)
+
+  module _ {count next : ℕ} (counted : readCount s at ≡ got count next) where
+    pub terms-faulty : {x : Item ℕ} → Alike x (readTerms variables count [] s next) → Alike x (readSum variables s at)
+    terms-faulty {x} a = subst (Alike x) (sym (sum-terms variables s at counted)) a
+
+    pub into-areas : {ws₀ : List ℕ} {cs₀ : List ℤ} {ws : List ℕ} {cs : List ℤ} {r : Read} {n end : ℕ} → r ≡ Value n end → ReadAt (readTerms variables count [] s next) ws₀ cs₀ ws cs n end
+        → (area : List ℕ) (area-cs : List ℤ) {area' : List ℕ} {area-cs' : List ℤ} → area' ≡ written (take count ws) area → area-cs' ≡ written (take count cs) area-cs
+        → (itemOf r, area', area-cs') ≡ readInto (readSum variables s at) area area-cs
+    unfolding readInto
+    into-areas {r} {n} {end} is t area area-cs words-are coefficients-are =
+        let many = terms-many variables count [] (t .sum) s next end (t .read) in
+        let first : itemOf r ≡ got (length (t .sum)) end = ap itemOf is ∙ ap (λ (k : ℕ). got k end) (sym (t .many)) in
+        let words = words-are ∙ ap (λ l. written l area) (words-first t many .0) in
+        let coefficients = coefficients-are ∙ ap (λ l. written l area-cs) (coefficients-first t many .0) in
+        (λ i. (first i, words i, coefficients i)) ∙ ap (λ item. readInto item area area-cs) (sym (sum-terms variables s at counted ∙ t .read))
+
+-- ---- `take_whole`: what follows the terms is tested too.
+
+pub whole-stops : {x : Item ℕ} {all : Item Sum} (count : ℕ) (ws : List ℕ) (cs : List ℤ) {ws' : List ℕ} {cs' : List ℤ} → Alike x all
+    → (ws' ≡ cleared 0 count ws) × (cs' ≡ cleared (pos 0) count cs) → outcome (fault SUM x) (ws', cs') ≡ wholeInto count (judged SUM all) ws cs
+unfolding wholeInto
+whole-stops count ws cs both-cut clear = rw (clear .0, clear .1)
+whole-stops count ws cs both-bad clear = rw (clear .0, clear .1)
+
+pub rest-stops : {x : Item ℕ} (count : ℕ) (s : List ℕ) (at : ℕ) → Alike x (readTerms variables count [] s at) → Alike x (readRest variables count s at)
+unfolding readRest
+rest-stops count s at a = alike-then _ a
+
+module _ (count : ℕ) (s : List ℕ) (at : ℕ) {ws₀ : List ℕ} {cs₀ : List ℤ} {ws : List ℕ} {cs : List ℤ} {n end : ℕ} (t : ReadAt (readTerms variables count [] s at) ws₀ cs₀ ws cs n end) where
+  all-many : length (t .sum) ≡ count
+  all-many = terms-many variables count [] (t .sum) s at end (t .read)
+
+  pub left-over : {ws' : List ℕ} {cs' : List ℤ} → end < length s → ws' ≡ cleared 0 count ws → cs' ≡ cleared (pos 0) count cs
+      → outcome (refused SUM end) (ws', cs') ≡ wholeInto count (judged SUM (readRest variables count s at)) ws₀ cs₀
+  unfolding readRest wholeInto
+  left-over {ws'} {cs'} h words coefficients =
+      let over = provided-no end _ (leb (length s) end) (λ k. omega (arith, leb→le (length s) end k)) in
+      let zeros : List ℕ = replicate count 0 in
+      let fewer-words : length (wordsOf (t .sum)) ≤ length zeros = omega (arith, length-map (t .sum) (λ (u : Term). wordFor (u .pattern)), all-many, length-replicate {A = ℕ} count 0) in
+      let fewer-coefficients : length (coefficientsOf (t .sum)) ≤ length (replicate count (pos 0)) = omega (arith, length-map (t .sum) (λ (u : Term). u .coefficient), all-many, length-replicate count (pos 0)) in
+      let ws-are : ws' ≡ cleared 0 count ws₀ = words ∙ ap (cleared 0 count) (t .words-are) ∙ written-over zeros (wordsOf (t .sum)) ws₀ fewer-words in
+      let cs-are : cs' ≡ cleared (pos 0) count cs₀ = coefficients ∙ ap (cleared (pos 0) count) (t .coefficients-are) ∙ written-over (replicate count (pos 0)) (coefficientsOf (t .sum)) cs₀ fewer-coefficients in
+      ap₂ (λ (l : List ℕ) (m : List ℤ). outcome (refused SUM end) (l, m)) ws-are cs-are
+      ∙ ap (λ r. wholeInto count (judged SUM r) ws₀ cs₀) (sym (then-got _ (t .read) ∙ over))
+
+  pub whole-read : length s ≤ end → outcome (done count) (ws, cs) ≡ wholeInto count (judged SUM (readRest variables count s at)) ws₀ cs₀
+  unfolding readRest wholeInto
+  whole-read h =
+      let all = provided-yes end _ (leb (length s) end) (le→leb (length s) end h) in
+      (λ i. outcome (done (sym all-many i)) (t .words-are i, t .coefficients-are i))
+      ∙ ap (λ r. wholeInto count (judged SUM r) ws₀ cs₀) (sym (then-got _ (t .read) ∙ all))
+
+-- ---- What a caller of `take_whole` knows.
+
+-- an answer that is done, whose number nobody asked for
+pub record IsDone (r : Answer) : Type 0 where
+  pub number-done : ℕ
+  pub is : r ≡ Done number-done
+
+pub is-done : (r : Answer) → OneOf (0 ∷ []) (tagOf the-type r) → IsDone r
+is-done (Done n) k = record { number-done = n; is = refl }
+is-done (Refused refusal p) k = absurd (omega arith)
+
+module _ (count : ℕ) (s : List ℕ) (at : ℕ) (ws : List ℕ) (cs : List ℤ) {ws' : List ℕ} {cs' : List ℤ} where
+  -- the sum that was read
+  pub whole-done : (r : Answer) {n : ℕ} → r ≡ Done n → outcome (told r) (ws', cs') ≡ wholeInto count (judged SUM (readRest variables count s at)) ws cs
+      → (end : ℕ) × (n ≡ count) × (ReadAt (readRest variables count s at) ws cs ws' cs' count end)
+  unfolding wholeInto
+  whole-done r {n} is e = go (readRest variables count s at) refl (sym (ap (λ a. outcome (told a) (ws', cs')) is) ∙ e)
+    where
+      go : (item : Item Sum) → readRest variables count s at ≡ item → outcome (done n) (ws', cs') ≡ wholeInto count (judged SUM item) ws cs
+          → (end : ℕ) × (n ≡ count) × (ReadAt (readRest variables count s at) ws cs ws' cs' count end)
+      go (got sum end) read f =
+          let many = rest-many variables count sum s at end read in
+          let all = done-same f in
+          (end, all .0 ∙ many, record { sum = sum; read = read; many = many; words-are = ap (λ x. x .0) (all .1); coefficients-are = ap (λ x. x .1) (all .1) })
+      go (cut place) read f = absurd (refused-done (ap (λ o. o .answer) (sym f)))
+      go (bad place) read f = absurd (refused-done (ap (λ o. o .answer) (sym f)))
+
+  -- the fault that was met
+  pub whole-refused : (r : Answer) → OneOf (1 ∷ []) (tagOf the-type r) → outcome (told r) (ws', cs') ≡ wholeInto count (judged SUM (readRest variables count s at)) ws cs
+      → (x : Item ℕ) × (Alike x (readRest variables count s at)) × (told r ≡ fault SUM x)
+  unfolding wholeInto
+  whole-refused (Done n) key e = absurd (omega arith)
+  whole-refused (Refused refusal p) key e = go (readRest variables count s at) e
+    where
+      go : (item : Item Sum) → outcome (refused (number refusal) p) (ws', cs') ≡ wholeInto count (judged SUM item) ws cs
+          → (x : Item ℕ) × (Alike x item) × (refused (number refusal) p ≡ fault SUM x)
+      go (got sum end) f = absurd (refused-done (ap (λ o. o .answer) f))
+      go (cut place) f = (cut place, both-cut, ap (λ o. o .answer) f)
+      go (bad place) f = (bad place, both-bad, ap (λ o. o .answer) f)
+
+-- ---- `unpack_terms`.
+
+both-refuse : {x : Item ℕ} {all : Item Sum} (ws : List ℕ) (cs : List ℤ) → Alike x all → outcome (fault SUM x) (ws, cs) ≡ heldInto (judged SUM all) ws cs
+unfolding heldInto
+both-refuse ws cs both-cut = refl
+both-refuse ws cs both-bad = refl
+
+module _ (count : ℕ) (s : List ℕ) (at : ℕ) (ws : List ℕ) (cs : List ℤ) {ws' : List ℕ} {cs' : List ℤ} (r : Answer)
+    (e : outcome (told r) (ws', cs') ≡ wholeInto count (judged SUM (readRest variables count s at)) ws cs) (area : List ℕ) (area-cs : List ℤ) where
+  pub areas-stay : OneOf (1 ∷ []) (tagOf the-type r) → outcome (told r) (area, area-cs) ≡ heldInto (judged SUM (readRest variables count s at)) area area-cs
+  areas-stay key =
+      let stop = whole-refused count s at ws cs r key e in
+      ap (λ (t : Told). outcome t (area, area-cs)) (stop .2) ∙ both-refuse area area-cs (stop .1)
+
+  pub areas-hold : OneOf (0 ∷ []) (tagOf the-type r) → {area' : List ℕ} {area-cs' : List ℤ} → area' ≡ written (take count ws') area → area-cs' ≡ written (take count cs') area-cs
+      → outcome (told r) (area', area-cs') ≡ heldInto (judged SUM (readRest variables count s at)) area area-cs
+  unfolding heldInto
+  areas-hold key words-are coefficients-are =
+      let d = is-done r key in
+      let whole = whole-done count s at ws cs r (d .is) e in
+      let t = whole .2 in
+      let says : told r ≡ done (length (t .sum)) = ap told (d .is) ∙ ap done (whole .1 ∙ sym (t .many)) in
+      let words = words-are ∙ ap (λ l. written l area) (words-first t (t .many) .0) in
+      let coefficients = coefficients-are ∙ ap (λ l. written l area-cs) (coefficients-first t (t .many) .0) in
+      (λ i. outcome (says i) (words i, coefficients i)) ∙ ap (λ item. heldInto (judged SUM item) area area-cs) (sym (t .read))
 
 -- ---- `unpack`.
-
-both-refuse : {x : Item ℕ} (all : Item Sum) (ws : List ℕ) (cs : List ℤ) → Alike x all → outcome (fault SUM x) (ws, cs) ≡ heldInto (judged SUM all) ws cs
-unfolding heldInto
-both-refuse all ws cs both-cut = refl
-both-refuse all ws cs both-bad = refl
 
 module _ (bytes ws : List ℕ) (cs : List ℤ) where
   pub few-words : length ws < mostTerms → outcome (refused ROOM 0) (ws, cs) ≡ unpack bytes ws cs
@@ -88,22 +194,8 @@ module _ (bytes ws : List ℕ) (cs : List ℤ) where
     unfolding unpack
     has-room = rw (le-leb mostTerms (length ws) words-room, le-leb mostTerms (length cs) coefficients-room)
 
-    pub unpack-stops : {x : Item ℕ} → Alike x (readSum variables bytes 0) → outcome (fault SUM x) (ws, cs) ≡ unpack bytes ws cs
-    unfolding readWhole
-    unpack-stops a = both-refuse (readWhole variables bytes) ws cs (alike-then _ a) ∙ sym has-room
+    pub unpack-stops : {x : Item ℕ} → Alike x (readCount bytes 0) → outcome (fault SUM x) (ws, cs) ≡ unpack bytes ws cs
+    unpack-stops {x} a = both-refuse ws cs (subst (Alike x) (sym (whole-split variables bytes)) (alike-then _ a)) ∙ sym has-room
 
-    module _ {words : List ℕ} {coefficients : List ℤ} {count end : ℕ} (t : Taken bytes 0 words coefficients count end) where
-      pub left-over : end < length bytes → outcome (refused SUM end) (ws, cs) ≡ unpack bytes ws cs
-      unfolding readWhole heldInto
-      left-over h =
-          let over = provided-no end _ (leb (length bytes) end) (λ k. omega (arith, leb→le (length bytes) end k)) in
-          sym (has-room ∙ ap (λ r. heldInto (judged SUM r) ws cs) (then-got _ (t .read) ∙ over))
-
-      pub into-areas-whole : length bytes ≤ end → {ws' : List ℕ} {cs' : List ℤ}
-          → ws' ≡ written (take count words) ws → cs' ≡ written (take count coefficients) cs
-          → outcome (done count) (ws', cs') ≡ unpack bytes ws cs
-      unfolding readWhole heldInto
-      into-areas-whole h words-are coefficients-are =
-          let all = provided-yes end _ (leb (length bytes) end) (le→leb (length bytes) end h) in
-          rw (words-are, coefficients-are, t .words-held, t .coefficients-held, ← t .many)
-          (sym (has-room ∙ ap (λ r. heldInto (judged SUM r) ws cs) (then-got _ (t .read) ∙ all)))
+    pub unpack-rest : {count next : ℕ} → readCount bytes 0 ≡ got count next → heldInto (judged SUM (readRest variables count bytes next)) ws cs ≡ unpack bytes ws cs
+    unpack-rest counted = sym (has-room ∙ ap (λ r. heldInto (judged SUM r) ws cs) (whole-rest variables bytes counted))

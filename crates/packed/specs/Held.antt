@@ -1,16 +1,35 @@
 -- What the code's readers answer, and leave in two areas.
 use mathlib.Core.Path.{_≡_}
-use mathlib.Core.List.{List}
+use mathlib.Core.List.{List, []}
 use Prim.Native.Nat.{ℕ}
-use lib.IntN.{ℤ}
-use lib.ListN.{length}
+use lib.Dec.{leb}
+use lib.IntN.{ℤ, pos}
+use lib.ListN.{length, take}
+use Rattle.algebra.specs.Limits.{variables, mostTerms}
 use Rattle.algebra.specs.Sum.{Sum}
-use Rattle.algebra.specs.Held.{wordsOf, coefficientsOf}
-use Rattle.answers.specs.Areas.{written}
-use Rattle.numbers.specs.Item.{Item, Item.got, Item.cut, Item.bad}
+use Rattle.algebra.specs.Held.{wordsOf, coefficientsOf, firstTerms}
+use Rattle.answers.specs.Areas.{written, cleared}
+use Rattle.numbers.specs.Item.{Item, Item.got, Item.cut, Item.bad, andThen, provided}
+use Rattle.numbers.specs.Number.{readNumber}
+use Rattle.packed.specs.ReadSum.{readTerms}
+use Rattle.packed.specs.Pack.{goodTerms}
 
--- two arrays that held ws₀ and cs₀ hold the sum, if one was read
-pub record Holds (item : Item Sum) (ws₀ : List ℕ) (cs₀ : List ℤ) (ws : List ℕ) (cs : List ℤ) : Type 0 where
+-- ---- A packed sum in two steps.
+
+-- the count alone. At fault, at its first byte: over 128
+unfoldable pub readCount : List ℕ → ℕ → Item ℕ
+readCount s at = andThen (readNumber s at) (λ count next. provided (leb count mostTerms) at (got count next))
+
+-- the terms after it, in n variables, which end with the bytes
+unfoldable pub readRest : ℕ → ℕ → List ℕ → ℕ → Item Sum
+readRest n count s at = andThen (readTerms n count [] s at) (λ sum end. provided (leb (length s) end) end (got sum end))
+
+-- ---- What is left in two areas.
+
+-- two arrays that held ws₀ and cs₀ hold the sum, if one was read. Whatever was, only their first `count` places are other than before
+pub record Holds (count : ℕ) (item : Item Sum) (ws₀ : List ℕ) (cs₀ : List ℤ) (ws : List ℕ) (cs : List ℤ) : Type 0 where
+  pub words-kept : ws ≡ written (take count ws) ws₀
+  pub coefficients-kept : cs ≡ written (take count cs) cs₀
   pub words-are : (s : Sum) (next : ℕ) → item ≡ got s next → ws ≡ written (wordsOf s) ws₀
   pub coefficients-are : (s : Sum) (next : ℕ) → item ≡ got s next → cs ≡ written (coefficientsOf s) cs₀
 
@@ -19,3 +38,16 @@ unfoldable pub readInto : Item Sum → List ℕ → List ℤ → Item ℕ × Lis
 readInto (got s next) ws cs = (got (length s) next, written (wordsOf s) ws, written (coefficientsOf s) cs)
 readInto (cut place) ws cs = (cut place, ws, cs)
 readInto (bad place) ws cs = (bad place, ws, cs)
+
+-- the same in the caller's own arrays: on a fault the first `count` places are cleared
+unfoldable pub takenInto : ℕ → Item Sum → List ℕ → List ℤ → Item ℕ × List ℕ × List ℤ
+takenInto count (got s next) ws cs = (got (length s) next, written (wordsOf s) ws, written (coefficientsOf s) cs)
+takenInto count (cut place) ws cs = (cut place, cleared 0 count ws, cleared (pos 0) count cs)
+takenInto count (bad place) ws cs = (bad place, cleared 0 count ws, cleared (pos 0) count cs)
+
+-- terms were copied, not judged, into the first `count` places of two arrays that held ws₀ and cs₀. If they were, and all are good, they are the terms that are read there
+pub record Copies (count : ℕ) (s : List ℕ) (at : ℕ) (item : Item ℕ) (ws₀ : List ℕ) (cs₀ : List ℤ) (ws : List ℕ) (cs : List ℤ) : Type 0 where
+  pub words-kept : ws ≡ written (take count ws) ws₀
+  pub coefficients-kept : cs ≡ written (take count cs) cs₀
+  pub are : (n next : ℕ) → item ≡ got n next → goodTerms [] (take count ws) (take count cs) ≡ count
+      → (n ≡ count) × (readTerms variables count [] s at ≡ got (firstTerms count ws cs) next)

@@ -10,22 +10,24 @@ use numbers::Read;
 ghost use mathlib.Core.Path.{_≡_};
 ghost use mathlib.Core.Bool.{_||_};
 ghost use mathlib.Core.List.{[]};
-ghost use Prim.Native.Nat.{_≤_};
+ghost use Prim.Native.Nat.{_+_, _≤_};
 ghost use lib.Dec.{eqb};
-ghost use lib.ListN.{length, take};
+ghost use lib.ListN.{length, take, drop};
 ghost use Rattle.algebra.specs.Limits.{variables, mostTerms, largestWeight};
 ghost use Rattle.algebra.specs.Pattern.{order};
 ghost use Rattle.algebra.specs.Sum.{isBefore};
-ghost use Rattle.algebra.specs.Word.{exponents, Valid};
+ghost use Rattle.algebra.specs.Word.{word, exponents, Valid};
 ghost use Rattle.answers.specs.Refusals.{SUM};
 ghost use Rattle.answers.specs.Answers.{told, outcome};
 ghost use Rattle.numbers.specs.Item.{mapped};
 ghost use Rattle.numbers.specs.Code.{code};
+ghost use Rattle.numbers.specs.Number.{readNumber};
 ghost use Rattle.numbers.specs.Read.{itemOf};
 ghost use Rattle.packed.specs.ReadSum.{readCoefficient, readExponents, readTerms, readSum};
 ghost use Rattle.algebra.specs.Held.{wordFor};
-ghost use Rattle.packed.specs.Held.{Holds, readInto};
-ghost use Rattle.packed.specs.Whole.{fault};
+ghost use Rattle.packed.specs.Held.{readCount, readRest, Holds, Copies, takenInto, readInto};
+ghost use Rattle.packed.specs.Whole.{judged, fault};
+ghost use Rattle.packed.specs.Result.{heldInto, wholeInto};
 ghost use Rattle.packed.specs.Unpack.{unpack};
 ghost use Rattle.packed.specs.Pack.{goodTerms, pack};
 
@@ -34,7 +36,26 @@ pub mod writer;
 // A term takes ten bytes at most for its coefficient and one for each exponent, the count two.
 pub const MOST_BYTES: usize = (10 + Pattern::VARIABLES as usize) * MOST_TERMS + 2;
 
+// So many terms are few.
+pub const FEW_TERMS: usize = 16;
+
+// No pattern has it.
+const LARGEST_WORD: u64 = 18446744073709551615;
+
 // ---- One item. Its answer is taken apart, and a refusal is returned at once.
+
+// The number at a place. One byte is the usual case, and is seen here.
+fn read_short(bytes: &[u8], at: usize) -> Read
+    ensures { λ r. ⌜ itemOf r ≡ readNumber (now (bytes .entry)) at ⌝ }
+{
+    if at < bytes.len() {
+        let byte = bytes[at];
+        if byte < 128 {
+            return Read::Value(byte as u64, at + 1);
+        }
+    }
+    numbers::read_number(bytes, at)
+}
 
 // A coefficient, judged at once: `weight` is that of the terms before. The value is its code.
 fn read_coefficient(bytes: &[u8], at: usize, weight: u64) -> Read
@@ -98,7 +119,7 @@ fn stands_after(k: usize, last: Pattern, pattern: Pattern) -> bool
 
 // ---- Terms and sums.
 
-// `count` terms of `powers` exponents each, into the first places of two arrays. What a refusal leaves there is not said: the arrays are the callers' own.
+// `count` terms of `powers` exponents each, into the first places of two arrays. What a refusal leaves in these places is not said: the arrays are the callers' own.
 fn take_terms(
     bytes: &[u8],
     at: usize,
@@ -111,7 +132,7 @@ fn take_terms(
     requires { ⌜ count ≤ length (now patterns) ⌝ }
     requires { ⌜ count ≤ length (now coefficients) ⌝ }
     ensures { λ r. ⌜ itemOf r ≡ mapped length (readTerms powers count [] (now (bytes .entry)) at) ⌝ }
-    ensures { λ r. ⌜ Holds (readTerms powers count [] (now (bytes .entry)) at) (now (patterns .entry)) (now (coefficients .entry)) (now (patterns .exit)) (now (coefficients .exit)) ⌝ }
+    ensures { λ r. ⌜ Holds count (readTerms powers count [] (now (bytes .entry)) at) (now (patterns .entry)) (now (coefficients .entry)) (now (patterns .exit)) (now (coefficients .exit)) ⌝ }
 {
     let mut place = at;
     let mut weight: u64 = 0;
@@ -141,28 +162,108 @@ fn take_terms(
     Read::Value(count as u64, place)
 }
 
-// A packed sum at a place of the bytes, into the first places of two arrays. The value is the number of terms.
-fn take_sum(
+// The same for as many exponents as there are variables; and on a fault the places are cleared.
+fn take_each(
     bytes: &[u8],
     at: usize,
-    powers: u64,
+    count: usize,
     patterns: &mut [u64],
     coefficients: &mut [i64],
 ) -> Read
-    requires { ⌜ powers ≤ variables ⌝ }
-    requires { ⌜ mostTerms ≤ length (now patterns) ⌝ }
-    requires { ⌜ mostTerms ≤ length (now coefficients) ⌝ }
-    ensures { λ r. ⌜ itemOf r ≡ mapped length (readSum powers (now (bytes .entry)) at) ⌝ }
-    ensures { λ r. ⌜ Holds (readSum powers (now (bytes .entry)) at) (now (patterns .entry)) (now (coefficients .entry)) (now (patterns .exit)) (now (coefficients .exit)) ⌝ }
+    requires { ⌜ count ≤ length (now patterns) ⌝ }
+    requires { ⌜ count ≤ length (now coefficients) ⌝ }
+    ensures { λ r. ⌜ (itemOf r, now (patterns .exit), now (coefficients .exit)) ≡ takenInto count (readTerms variables count [] (now (bytes .entry)) at) (now (patterns .entry)) (now (coefficients .entry)) ⌝ }
 {
-    let item = numbers::read_number(bytes, at);
-    let Read::Value(count, next) = item else {
+    let item = take_terms(bytes, at, Pattern::VARIABLES, count, patterns, coefficients);
+    let Read::Value(_, _) = item else {
+        areas::clear_words(patterns, count);
+        areas::clear_coefficients(coefficients, count);
+        return item;
+    };
+    item
+}
+
+// The eight bytes at a place as one word, whatever they are.
+fn word_at(bytes: &[u8], at: usize) -> u64
+    requires { ⌜ at + variables ≤ length (now bytes) ⌝ }
+    ensures { λ r. ⌜ r ≡ word (take variables (drop at (now (bytes .entry)))) ⌝ }
+{
+    let mut word: u64 = 0;
+    let mut v: u64 = 0;
+    while v < Pattern::VARIABLES {
+        word = word | ((bytes[at + v as usize] as u64) << (8 * (Pattern::VARIABLES - 1 - v)));
+        v += 1;
+    }
+    word
+}
+
+// `count` terms as they stand, not judged: a code, and a byte for each exponent, as all good terms have it. Where they are not like that, no value is answered, and nothing
+// is said of the places.
+fn copy_terms(
+    bytes: &[u8],
+    at: usize,
+    count: usize,
+    patterns: &mut [u64],
+    coefficients: &mut [i64],
+) -> Read
+    requires { ⌜ count ≤ length (now patterns) ⌝ }
+    requires { ⌜ count ≤ length (now coefficients) ⌝ }
+    ensures { λ r. ⌜ Copies count (now (bytes .entry)) at (itemOf r) (now (patterns .entry)) (now (coefficients .entry)) (now (patterns .exit)) (now (coefficients .exit)) ⌝ }
+{
+    let mut place = at;
+    let mut k = 0;
+    while k < count {
+        let item = read_short(bytes, place);
+        let Read::Value(c, next) = item else {
+            return item;
+        };
+        if bytes.len() - next < Pattern::VARIABLES as usize {
+            return Read::Cut(next);
+        }
+        let coefficient = numbers::decode(c);
+        patterns[k] = word_at(bytes, next);
+        coefficients[k] = coefficient;
+        place = next + Pattern::VARIABLES as usize;
+        k += 1;
+    }
+    Read::Value(count as u64, place)
+}
+
+// `count` terms at a place of the bytes, into the first places of two arrays. They are copied, and then judged as packing judges them. Only where that fails they are
+// read item by item, which finds the fault.
+fn take(
+    bytes: &[u8],
+    at: usize,
+    count: usize,
+    patterns: &mut [u64],
+    coefficients: &mut [i64],
+) -> Read
+    requires { ⌜ count ≤ length (now patterns) ⌝ }
+    requires { ⌜ count ≤ length (now coefficients) ⌝ }
+    ensures { λ r. ⌜ (itemOf r, now (patterns .exit), now (coefficients .exit)) ≡ takenInto count (readTerms variables count [] (now (bytes .entry)) at) (now (patterns .entry)) (now (coefficients .entry)) ⌝ }
+{
+    let copied = copy_terms(bytes, at, count, patterns, coefficients);
+    let Read::Value(_, _) = copied else {
+        return take_each(bytes, at, count, patterns, coefficients);
+    };
+    if good_terms(patterns, coefficients, count) < count {
+        return take_each(bytes, at, count, patterns, coefficients);
+    }
+    copied
+}
+
+// The number of terms of a packed sum at a place of the bytes, judged.
+pub fn read_count(bytes: &[u8], at: usize) -> Read
+    ensures { λ r. ⌜ itemOf r ≡ readCount (now (bytes .entry)) at ⌝ }
+{
+    let item = read_short(bytes, at);
+    let Read::Value(count, _) = item else {
         return item;
     };
     if count > MOST_TERMS as u64 {
         return Read::Bad(at);
     }
-    take_terms(bytes, next, powers, count as usize, patterns, coefficients)
+    item
 }
 
 // A packed sum at a place of the bytes, for lists of sums. The value is the number of terms; on a refusal the areas stay.
@@ -171,19 +272,17 @@ pub fn read_sum(bytes: &[u8], at: usize, patterns: &mut [u64], coefficients: &mu
     requires { ⌜ mostTerms ≤ length (now coefficients) ⌝ }
     ensures { λ r. ⌜ (itemOf r, now (patterns .exit), now (coefficients .exit)) ≡ readInto (readSum variables (now (bytes .entry)) at) (now (patterns .entry)) (now (coefficients .entry)) ⌝ }
 {
-    let mut own_patterns = [0u64; MOST_TERMS];
-    let mut own_coefficients = [0i64; MOST_TERMS];
-    let item = take_sum(
-        bytes,
-        at,
-        Pattern::VARIABLES,
-        &mut own_patterns,
-        &mut own_coefficients,
-    );
-    let Read::Value(count, _) = item else {
-        return item;
+    let first = read_count(bytes, at);
+    let Read::Value(count, next) = first else {
+        return first;
     };
     let n = count as usize;
+    let mut own_patterns = [0u64; MOST_TERMS];
+    let mut own_coefficients = [0i64; MOST_TERMS];
+    let item = take(bytes, next, n, &mut own_patterns, &mut own_coefficients);
+    let Read::Value(_, _) = item else {
+        return item;
+    };
     areas::copy_words(patterns, &own_patterns, n);
     areas::copy_coefficients(coefficients, &own_coefficients, n);
     item
@@ -192,7 +291,7 @@ pub fn read_sum(bytes: &[u8], at: usize, patterns: &mut [u64], coefficients: &mu
 // ---- The operations.
 
 // A packed sum that was cut or is damaged is refused with SUM at its place. (A value is none of the two, and is not passed here.)
-fn refused(item: Read) -> Answer
+pub fn refused(item: Read) -> Answer
     ensures { λ r. ⌜ told r ≡ fault SUM (itemOf item) ⌝ }
 {
     match item {
@@ -202,7 +301,56 @@ fn refused(item: Read) -> Answer
     }
 }
 
-// The terms are read into arrays of its own: the lent areas are written when nothing can be refused any more.
+// The `count` terms after a sum's count, which end with the bytes, into the first places of two arrays. On a refusal these places are cleared.
+pub fn take_whole(
+    bytes: &[u8],
+    at: usize,
+    count: usize,
+    patterns: &mut [u64],
+    coefficients: &mut [i64],
+) -> Answer
+    requires { ⌜ count ≤ length (now patterns) ⌝ }
+    requires { ⌜ count ≤ length (now coefficients) ⌝ }
+    ensures { λ r. ⌜ outcome (told r) (now (patterns .exit), now (coefficients .exit)) ≡ wholeInto count (judged SUM (readRest variables count (now (bytes .entry)) at)) (now (patterns .entry)) (now (coefficients .entry)) ⌝ }
+{
+    let item = take(bytes, at, count, patterns, coefficients);
+    let Read::Value(_, end) = item else {
+        return refused(item);
+    };
+    if end < bytes.len() {
+        areas::clear_words(patterns, count);
+        areas::clear_coefficients(coefficients, count);
+        return Answer::Refused(Refusal::Sum, end);
+    }
+    Answer::Done(count)
+}
+
+// The terms go through two arrays of the caller's own: the lent areas are written when nothing can be refused any more.
+fn unpack_terms(
+    bytes: &[u8],
+    at: usize,
+    count: usize,
+    own_patterns: &mut [u64],
+    own_coefficients: &mut [i64],
+    patterns: &mut [u64],
+    coefficients: &mut [i64],
+) -> Answer
+    requires { ⌜ count ≤ length (now «own_patterns») ⌝ }
+    requires { ⌜ count ≤ length (now «own_coefficients») ⌝ }
+    requires { ⌜ count ≤ length (now patterns) ⌝ }
+    requires { ⌜ count ≤ length (now coefficients) ⌝ }
+    ensures { λ r. ⌜ outcome (told r) (now (patterns .exit), now (coefficients .exit)) ≡ heldInto (judged SUM (readRest variables count (now (bytes .entry)) at)) (now (patterns .entry)) (now (coefficients .entry)) ⌝ }
+{
+    let taken = take_whole(bytes, at, count, own_patterns, own_coefficients);
+    let Answer::Done(_) = taken else {
+        return taken;
+    };
+    areas::copy_words(patterns, own_patterns, count);
+    areas::copy_coefficients(coefficients, own_coefficients, count);
+    taken
+}
+
+// Few terms go through small arrays: to clear large ones would take longer than to read the terms.
 pub fn unpack(bytes: &[u8], patterns: &mut [u64], coefficients: &mut [i64]) -> Answer
     ensures { λ r. ⌜ outcome (told r) (now (patterns .exit), now (coefficients .exit)) ≡ unpack (now (bytes .entry)) (now (patterns .entry)) (now (coefficients .entry)) ⌝ }
 {
@@ -212,25 +360,35 @@ pub fn unpack(bytes: &[u8], patterns: &mut [u64], coefficients: &mut [i64]) -> A
     if coefficients.len() < MOST_TERMS {
         return Answer::Refused(Refusal::Room, 0);
     }
-    let mut own_patterns = [0u64; MOST_TERMS];
-    let mut own_coefficients = [0i64; MOST_TERMS];
-    let item = take_sum(
-        bytes,
-        0,
-        Pattern::VARIABLES,
-        &mut own_patterns,
-        &mut own_coefficients,
-    );
-    let Read::Value(count, end) = item else {
-        return refused(item);
+    let first = read_count(bytes, 0);
+    let Read::Value(number, next) = first else {
+        return refused(first);
     };
-    if end < bytes.len() {
-        return Answer::Refused(Refusal::Sum, end);
+    let n = number as usize;
+    if n <= FEW_TERMS {
+        let mut few = [0u64; FEW_TERMS];
+        let mut few_coefficients = [0i64; FEW_TERMS];
+        return unpack_terms(
+            bytes,
+            next,
+            n,
+            &mut few,
+            &mut few_coefficients,
+            patterns,
+            coefficients,
+        );
     }
-    let n = count as usize;
-    areas::copy_words(patterns, &own_patterns, n);
-    areas::copy_coefficients(coefficients, &own_coefficients, n);
-    Answer::Done(n)
+    let mut own = [0u64; MOST_TERMS];
+    let mut own_coefficients = [0i64; MOST_TERMS];
+    unpack_terms(
+        bytes,
+        next,
+        n,
+        &mut own,
+        &mut own_coefficients,
+        patterns,
+        coefficients,
+    )
 }
 
 // How many terms are good before the first bad one.
@@ -240,7 +398,9 @@ fn good_terms(patterns: &[u64], coefficients: &[i64], count: usize) -> usize
     ensures { λ r. ⌜ r ≡ goodTerms [] (take count (now (patterns .entry))) (take count (now (coefficients .entry))) ⌝ }
 {
     let mut weight: u64 = 0;
-    let mut last = Pattern::empty();
+    // The degree and the word of the pattern before. At first they are those that any pattern stands after.
+    let mut degree = Pattern::LARGEST_DEGREE;
+    let mut last: u64 = LARGEST_WORD;
     let mut k = 0;
     while k < count {
         let pattern = Pattern(patterns[k]);
@@ -252,14 +412,18 @@ fn good_terms(patterns: &[u64], coefficients: &[i64], count: usize) -> usize
         if size > LARGEST_WEIGHT - weight {
             return k;
         }
-        if !pattern.is_valid() {
+        let total = pattern.total();
+        if total > degree {
             return k;
         }
-        if !stands_after(k, last, pattern) {
-            return k;
+        if total == degree {
+            if pattern.0 >= last {
+                return k;
+            }
         }
         weight += size;
-        last = pattern;
+        degree = total;
+        last = pattern.0;
         k += 1;
     }
     count

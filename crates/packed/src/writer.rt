@@ -2,28 +2,28 @@
 use algebra::Pattern;
 ghost use mathlib.Core.Path.{_≡_};
 ghost use Prim.Native.Nat.{_+_, _≤_};
-ghost use lib.ListN.{length};
+ghost use lib.ListN.{length, take};
 ghost use lib.Seq.{sets};
-ghost use Rattle.algebra.specs.Word.{exponents};
+ghost use Rattle.algebra.specs.Word.{exponents, Valid, EachValid};
 ghost use Rattle.packed.specs.Packed.{exponentBytes, packed};
 ghost use Rattle.algebra.specs.Held.{firstTerms};
 
-// The exponents of a pattern, one after the other.
+// The exponents of a pattern, one after the other. None is above 60, so each takes one byte.
 fn write_exponents(area: &mut [u8], at: usize, pattern: Pattern) -> usize
+    requires { ⌜ Valid (pattern .0) ⌝ }
     requires { ⌜ at + length (exponentBytes (exponents (pattern .0))) ≤ length (now area) ⌝ }
     ensures { λ r. ⌜ r ≡ at + length (exponentBytes (exponents (pattern .0))) ⌝ }
     ensures { λ r. ⌜ now (area .exit) ≡ sets (now (area .entry)) at (exponentBytes (exponents (pattern .0))) ⌝ }
 {
-    let mut place = at;
     let mut v: u64 = 0;
     while v < Pattern::VARIABLES {
-        place = numbers::write_number(area, place, pattern.exponent(v));
+        area[at + v as usize] = pattern.exponent(v) as u8;
         v += 1;
     }
-    place
+    at + Pattern::VARIABLES as usize
 }
 
-// Writes a packed sum at a place of an area, and answers the place after it.
+// Writes a packed sum at a place of an area, and answers the place after it. Its patterns are within the limits.
 pub fn write_sum(
     area: &mut [u8],
     at: usize,
@@ -33,6 +33,7 @@ pub fn write_sum(
 ) -> usize
     requires { ⌜ count ≤ length (now patterns) ⌝ }
     requires { ⌜ count ≤ length (now coefficients) ⌝ }
+    requires { ⌜ EachValid (take count (now patterns)) ⌝ }
     requires { ⌜ at + length (packed (firstTerms count (now patterns) (now coefficients))) ≤ length (now area) ⌝ }
     ensures { λ r. ⌜ r ≡ at + length (packed (firstTerms count (now (patterns .entry)) (now (coefficients .entry)))) ⌝ }
     ensures { λ r. ⌜ now (area .exit) ≡ sets (now (area .entry)) at (packed (firstTerms count (now (patterns .entry)) (now (coefficients .entry)))) ⌝ }

@@ -5,7 +5,7 @@ use native.Mathlib.Omega.{arith}
 use borrow.Author.Needs.{needs}
 use Rattle.answers.specs.Refusals.{SUM}
 use Rattle.answers.specs.Answers.{Told.refused, outcome}
-use Rattle.packed.proofs.Packing.{no-room, too-many, few-words, few-coefficients, Passed, bad-term, every-good, has-room, all-written}
+use Rattle.packed.proofs.Packing.{no-room, too-many, few-words, few-coefficients, Passed, bad-term, every-good, every-valid, has-room, all-written}
 use Rattle.packed.proofs.pack.Statement.{statement}
 use Rattle.packed.proofs.pack.Tie as tie
 
@@ -42,7 +42,8 @@ returns-5 c =
 write-sum-requires : tie.Need-write-sum-requires
 write-sum-requires c κs =
     let p = passed (c .before .before .before) in
-    (p .words, (p .coefficients, has-room p (every-good p (omega (arith, c .before .before .good-terms .ensures, c .before .if5 .left)))))
+    let every = every-good p (omega (arith, c .before .before .good-terms .ensures, c .before .if5 .left)) in
+    (p .words, (p .coefficients, (every-valid p every, has-room p every)))
 
 same-length : tie.Need-same-length
 same-length c = search needs

@@ -57,7 +57,8 @@ returns : tie.Need-returns Inv-loop μ-loop
 returns c =
     let r = c .before .read-coefficient in
     let stop = stopped (r .result) (c .match .keys2) code _ (r .ensures) in
-    refuses stop (first-stops (c .before .before .before .loop .inv) (c .before .before .loop-test .taken) stop)
+    let inv = c .before .before .before .loop .inv in
+    refuses inv stop (first-stops inv (c .before .before .loop-test .taken) stop)
 
 read-exponents-requires : tie.Need-read-exponents-requires Inv-loop μ-loop
 read-exponents-requires c κs = search needs
@@ -76,7 +77,8 @@ returns-2 c =
     let d = c .before .before in
     let r = c .before .read-exponents in
     let stop = stopped (r .result) (c .match2 .keys2) wordFor _ (r .ensures) in
-    refuses stop (rest-stops (d .before .before .before .before .before .loop .inv) (d .before .before .before .before .loop-test .taken) (first-of d) stop)
+    let inv = d .before .before .before .before .before .loop .inv in
+    refuses inv stop (rest-stops inv (d .before .before .before .before .loop-test .taken) (first-of d) stop)
 
 stands-after-requires : tie.Need-stands-after-requires Inv-loop μ-loop
 stands-after-requires c κs =
@@ -96,7 +98,7 @@ returns-3 c =
     let d = e .before .before .before .before in
     let loop = d .before .before .before .before .before .loop in
     let inside = d .before .before .before .before .loop-test .taken in
-    refuses {A = ℕ} both-bad (disorder (loop .inv) inside (first-of d) (rest-of e) (sym (c .before .stands-after .ensures) ∙ not-true _ (c .if1 .taken)))
+    refuses (loop .inv) {A = ℕ} both-bad (disorder (loop .inv) inside (first-of d) (rest-of e) (sym (c .before .stands-after .ensures) ∙ not-true _ (c .if1 .taken)))
 
 decode-requires : tie.Need-decode-requires Inv-loop μ-loop
 decode-requires c κs = search needs

@@ -7,6 +7,7 @@ use lib.ListN.{getD}
 use mir.Syntax.{w64}
 use mir.ValLaws.{toZ-ofZ}
 use Rattle.numbers.specs.Code.{code}
+use Rattle.packed.proofs.Front.{valid-at}
 use Rattle.packed.proofs.WriteSum.{WritingTerms, count-room, counted-is, begin, Due, code-room, exponents-room, again, stops}
 use Rattle.packed.proofs.writer.write_sum.Statement.{statement}
 use Rattle.packed.proofs.writer.write_sum.Tie as tie
@@ -20,13 +21,13 @@ abbrev μ-loop : tie.MeasureT-loop
 write-number-requires : tie.Need-write-number-requires Inv-loop μ-loop
 write-number-requires c κs =
     let pre = c .before .before .before .pre in
-    count-room _ _ _ (pre .0) (pre .1 .0) _ _ (pre .1 .1)
+    count-room _ _ _ (pre .0) (pre .1 .0) _ _ (pre .1 .1 .1)
 
 loop-holds : tie.Need-loop-holds Inv-loop μ-loop
 loop-holds c =
     let pre = c .before .before .before .before .before .before .pre in
     let counted = c .before .before .write-number .ensures in
-    begin _ _ _ (pre .0) (pre .1 .0) (counted-is _ _ _ (pre .0) (pre .1 .0) (pre .1 .1) (counted .0) (counted .1))
+    begin _ _ _ (pre .0) (pre .1 .0) (counted-is _ _ _ (pre .0) (pre .1 .0) (pre .1 .1 .1) (counted .0) (counted .1))
 
 mul-coefficient : tie.Need-mul-coefficient Inv-loop μ-loop
 mul-coefficient c = search needs
@@ -65,7 +66,8 @@ write-exponents-requires : tie.Need-write-exponents-requires Inv-loop μ-loop
 write-exponents-requires c κs =
     let d = c .before .before .before .before in
     let coded = d .write-number2 .ensures in
-    exponents-room (due (d .before)) (coded .0) (coded .1)
+    let args = d .before .before .before .before .before .before .before .before .before .before .before .before in
+    (valid-at _ _ (args .pre .0) (args .pre .1 .1 .0) _ (d .before .before .before .before .loop-test .taken), exponents-room (due (d .before)) (coded .0) (coded .1))
 
 add-k : tie.Need-add-k Inv-loop μ-loop
 add-k c = search needs
@@ -87,7 +89,7 @@ returns : tie.Need-returns Inv-loop μ-loop
 returns c =
     let pre = c .before .before .before .before .before .before .before .before .pre in
     let counted = c .before .before .before .before .write-number .ensures in
-    stops (counted-is _ _ _ (pre .0) (pre .1 .0) (pre .1 .1) (counted .0) (counted .1)) (c .before .loop .inv) (c .loop-test .left)
+    stops (counted-is _ _ _ (pre .0) (pre .1 .0) (pre .1 .1 .1) (counted .0) (counted .1)) (c .before .loop .inv) (c .loop-test .left)
 
 pub write-sum-spec : {M : Type 1} → statement M
 write-sum-spec =

@@ -1,0 +1,114 @@
+-- What `take_each` and `take` leave in the caller's own arrays: the terms that were read, or zeros.
+use mathlib.Core.Path.{_≡_, refl, sym, _∙_, ap}
+use mathlib.Core.List.{List, [], _∷_}
+use Prim.Native.Nat.{ℕ, _≤_}
+use native.Mathlib.Omega.{arith}
+use types.Run.{OneOf}
+use denote.Enum.Declared.{tagOf}
+use lib.IntN.{ℤ, pos}
+use lib.ListN.{length, take, length-take, length-map, replicate, length-replicate}
+use lib.Seq.{length-take-le}
+use Rattle.algebra.specs.Limits.{variables}
+use Rattle.algebra.specs.Sum.{Sum}
+use Rattle.algebra.specs.Held.{wordsOf, coefficientsOf, firstTerms}
+use Rattle.answers.specs.Areas.{written, cleared}
+use Rattle.answers.proofs.Writes.{written-over}
+use Rattle.numbers.specs.Item.{Item, Item.got, Item.cut, Item.bad, mapped}
+use Rattle.numbers.specs.Read.{itemOf}
+use Rattle.numbers.specs.declared.Read.{Read}
+use Rattle.numbers.specs.declared.Read.the-variants.{Value}
+use Rattle.numbers.proofs.Read.{the-type}
+use Rattle.numbers.proofs.Items.{Alike, Alike.both-cut, Alike.both-bad, stopped, answered}
+use Rattle.packed.specs.ReadSum.{readTerms}
+use Rattle.packed.specs.Pack.{goodTerms}
+use Rattle.packed.specs.Held.{Holds, Copies, takenInto}
+use Rattle.packed.proofs.Good.{each-valid, good-most, terms-good}
+use Rattle.packed.proofs.Front.{front-length, front-words, front-coefficients}
+
+-- ---- Places that were written before are forgotten.
+
+module _ {A : Type 0} (count : ℕ) (area₀ : List A) {area : List A} (kept : area ≡ written (take count area) area₀) where
+  over-kept : (values : List A) → length values ≡ count → written values area ≡ written values area₀
+  over-kept values many = ap (written values) kept ∙ written-over values (take count area) area₀ (omega (arith, many, length-take count area))
+
+  cleared-kept : (zero : A) → cleared zero count area ≡ cleared zero count area₀
+  cleared-kept zero = over-kept (replicate count zero) (length-replicate count zero)
+
+-- ---- `take_each`.
+
+module _ (count : ℕ) {ws₀ : List ℕ} {cs₀ : List ℤ} {ws : List ℕ} {cs : List ℤ} where
+  pub each-stops : {x : Item ℕ} {all : Item Sum} {ws' : List ℕ} {cs' : List ℤ} → Alike x all → Holds count all ws₀ cs₀ ws cs → ws' ≡ cleared 0 count ws → cs' ≡ cleared (pos 0) count cs
+      → (x, ws', cs') ≡ takenInto count all ws₀ cs₀
+  unfolding takenInto
+  each-stops both-cut held words coefficients = rw (words ∙ cleared-kept count ws₀ (held .words-kept) 0, coefficients ∙ cleared-kept count cs₀ (held .coefficients-kept) (pos 0))
+  each-stops both-bad held words coefficients = rw (words ∙ cleared-kept count ws₀ (held .words-kept) 0, coefficients ∙ cleared-kept count cs₀ (held .coefficients-kept) (pos 0))
+
+  pub each-taken : {r : Read} {n next : ℕ} {all : Item Sum} → r ≡ Value n next → itemOf r ≡ mapped length all → Holds count all ws₀ cs₀ ws cs → (itemOf r, ws, cs) ≡ takenInto count all ws₀ cs₀
+  unfolding takenInto
+  each-taken {r} {n} {next} {all} is e held =
+      let from = answered r is length all e in
+      let first : itemOf r ≡ got (length (from .value)) next = ap itemOf is ∙ ap (λ (k : ℕ). got k next) (sym (from .shown)) in
+      let words = held .words-are (from .value) next (from .is) in
+      let coefficients = held .coefficients-are (from .value) next (from .is) in
+      (λ i. (first i, words i, coefficients i)) ∙ ap (λ item. takenInto count item ws₀ cs₀) (sym (from .is))
+
+-- ---- `take`.
+
+-- what was copied before is forgotten
+pub taken-over : (count : ℕ) (all : Item Sum) (ws₀ : List ℕ) (cs₀ : List ℤ) {ws : List ℕ} {cs : List ℤ} → ((s : Sum) (next : ℕ) → all ≡ got s next → length s ≡ count)
+    → ws ≡ written (take count ws) ws₀ → cs ≡ written (take count cs) cs₀ → takenInto count all ws cs ≡ takenInto count all ws₀ cs₀
+unfolding takenInto
+taken-over count (got s next) ws₀ cs₀ many words coefficients =
+    rw (over-kept count ws₀ words (wordsOf s) (length-map s _ ∙ many s next refl), over-kept count cs₀ coefficients (coefficientsOf s) (length-map s _ ∙ many s next refl))
+taken-over count (cut place) ws₀ cs₀ many words coefficients = rw (cleared-kept count ws₀ words 0, cleared-kept count cs₀ coefficients (pos 0))
+taken-over count (bad place) ws₀ cs₀ many words coefficients = rw (cleared-kept count ws₀ words 0, cleared-kept count cs₀ coefficients (pos 0))
+
+-- all terms that were copied are good
+pub all-taken : {count : ℕ} {s : List ℕ} {at : ℕ} {ws₀ : List ℕ} {cs₀ : List ℤ} {ws : List ℕ} {cs : List ℤ} {r : Read} {n next : ℕ} → Copies count s at (itemOf r) ws₀ cs₀ ws cs → r ≡ Value n next
+    → count ≤ length ws → count ≤ length cs → count ≤ goodTerms [] (take count ws) (take count cs)
+    → (itemOf r, ws, cs) ≡ takenInto count (readTerms variables count [] s at) ws₀ cs₀
+unfolding takenInto
+all-taken {count} {s} {at} {ws₀} {cs₀} {ws} {cs} {r} {n} {next} copies is words coefficients good =
+    let long = length-take-le count ws words in
+    let every : goodTerms [] (take count ws) (take count cs) ≡ count = omega (arith, good-most [] (take count ws) (take count cs)) in
+    let valid = each-valid (take count ws) (terms-good [] (take count ws) (take count cs) (every ∙ sym long) .0) in
+    let are = copies .are n next (ap itemOf is) every in
+    let sum = firstTerms count ws cs in
+    let first : itemOf r ≡ got (length sum) next = ap itemOf is ∙ ap (λ (k : ℕ). got k next) (are .0 ∙ sym (front-length count ws cs words coefficients)) in
+    let words-are : ws ≡ written (wordsOf sum) ws₀ = copies .words-kept ∙ ap (λ l. written l ws₀) (sym (front-words count ws cs words coefficients valid)) in
+    let coefficients-are : cs ≡ written (coefficientsOf sum) cs₀ = copies .coefficients-kept ∙ ap (λ l. written l cs₀) (sym (front-coefficients count ws cs words coefficients)) in
+    (λ i. (first i, words-are i, coefficients-are i)) ∙ ap (λ item. takenInto count item ws₀ cs₀) (sym (are .1))
+
+-- ---- What a caller of `take` knows.
+
+-- the areas hold the sum that was read
+pub record ReadAt (item : Item Sum) (ws : List ℕ) (cs : List ℤ) (ws' : List ℕ) (cs' : List ℤ) (count end : ℕ) : Type 0 where
+  pub sum : Sum
+  pub read : item ≡ got sum end
+  pub many : length sum ≡ count
+  pub words-are : ws' ≡ written (wordsOf sum) ws
+  pub coefficients-are : cs' ≡ written (coefficientsOf sum) cs
+
+counted : (count : ℕ) (item : Item Sum) (ws : List ℕ) (cs : List ℤ) → takenInto count item ws cs .0 ≡ mapped length item
+unfolding takenInto mapped
+counted count (got s next) ws cs = refl
+counted count (cut place) ws cs = refl
+counted count (bad place) ws cs = refl
+
+module _ (r : Read) (count : ℕ) (item : Item Sum) (ws : List ℕ) (cs : List ℤ) {ws' : List ℕ} {cs' : List ℤ} (e : (itemOf r, ws', cs') ≡ takenInto count item ws cs) where
+  pub taken-stopped : OneOf (1 ∷ 2 ∷ []) (tagOf the-type r) → Alike (itemOf r) item
+  taken-stopped keys = stopped r keys length item (ap (λ x. x .0) e ∙ counted count item ws cs)
+
+  pub taken-read : {n end : ℕ} → r ≡ Value n end → ReadAt item ws cs ws' cs' n end
+  unfolding takenInto
+  taken-read is =
+      let from = answered r is length item (ap (λ x. x .0) e ∙ counted count item ws cs) in
+      let held = e ∙ ap (λ i. takenInto count i ws cs) (from .is) in
+      record { sum = from .value; read = from .is; many = from .shown; words-are = ap (λ x. x .1) held; coefficients-are = ap (λ x. x .2) held }
+
+-- after a fault the arrays are cleared
+pub taken-cleared : {x : Item ℕ} (count : ℕ) {item : Item Sum} (ws : List ℕ) (cs : List ℤ) {ws' : List ℕ} {cs' : List ℤ} → Alike x item → (x, ws', cs') ≡ takenInto count item ws cs
+    → (ws' ≡ cleared 0 count ws) × (cs' ≡ cleared (pos 0) count cs)
+unfolding takenInto
+taken-cleared count ws cs both-cut e = (ap (λ x. x .1) e, ap (λ x. x .2) e)
+taken-cleared count ws cs both-bad e = (ap (λ x. x .1) e, ap (λ x. x .2) e)
