@@ -1,5 +1,5 @@
 -- What `form_table` answers, check by check: a refusal, or the packed sum of the last node.
-use mathlib.Core.Path.{_≡_, refl, sym, _∙_, ap, ap₂}
+use mathlib.Core.Path.{_≡_, refl, sym, _∙_, ap, ap₂, subst}
 use mathlib.Core.Bool.{true, false}
 use mathlib.Core.List.{List, [], _∷_}
 use Prim.Native.Nat.{ℕ, suc, _+_, _*_, _-_, _/_, _≤_}
@@ -7,11 +7,11 @@ use native.Mathlib.Omega.{arith}
 use types.Run.{OneOf}
 use denote.Enum.Declared.{tagOf}
 use lib.IntN.{ℤ}
-use lib.ListN.{length}
+use lib.ListN.{length, take}
 use lib.Seq.{sets}
 use borrow.Rule.Slice.PartMut.{midOf}
 use Rattle.algebra.specs.Limits.{variables, mostTerms, workPlaces}
-use Rattle.algebra.specs.Word.{terms}
+use Rattle.algebra.specs.Word.{terms, EachValid}
 use Rattle.algebra.specs.Held.{firstTerms}
 use Rattle.algebra.specs.Accepted.{Accepted}
 use Rattle.answers.specs.Refusals.{SHAPE, number}
@@ -22,7 +22,7 @@ use Rattle.answers.proofs.Answer.{the-type}
 use Rattle.packed.specs.Packed.{packed, mostBytes}
 use Rattle.packed.specs.Result.{packedInto}
 use Rattle.packed.proofs.Results.{result-room, result-written}
-use Rattle.sums.proofs.Holding.{spells, accepted-holdable}
+use Rattle.sums.proofs.Holding.{spells, holds, each-valid, accepted-holdable}
 use Rattle.sums.specs.Part.{part}
 use Rattle.answers.specs.Judge.{Judged, Judged.good, Judged.fails, andThen}
 use Rattle.formula.specs.Table.{Entry, judgeNodes, isShape}
@@ -67,6 +67,7 @@ pub record Formed (table : List ℤ) (ws : List ℕ) (cs : List ℤ) (count : �
   pub es : List Entry
   pub judged : judgeNodes [] table ≡ good es
   pub terms-are : firstTerms count (part (lastOf table) ws) (part (lastOf table) cs) ≡ lastSum es
+  pub words-valid : EachValid (take count (part (lastOf table) ws))
   pub accepted : Accepted variables (lastSum es)
   pub many : length (lastSum es) ≡ count
 
@@ -85,6 +86,7 @@ formed table ws cs {count} {r} shape is says keeps = go (judgeNodes [] table) re
         let all = judge-says table (omega (arith, three)) e in
         let last : length es - 1 ≡ lastOf table = omega (arith, passed-length (all .passed), table-length (all .ks), ap length (all .table-is)) in
         let accepted = last-accepted (all .passed) in
+        let words = ap₂ (λ (n m : ℕ). take n (part m ws)) (sym many) (sym last) ∙ keeps .words-are es e in
         record {
           shape = shape;
           es = es;
@@ -93,6 +95,7 @@ formed table ws cs {count} {r} shape is says keeps = go (judgeNodes [] table) re
               ap₂ (λ (n m : ℕ). firstTerms n (part m ws) (part m cs)) (sym many) (sym last)
               ∙ ap₂ terms (keeps .words-are es e) (keeps .coefficients-are es e)
               ∙ spells (accepted-holdable accepted);
+          words-valid = subst EachValid (sym words) (each-valid (holds (accepted-holdable accepted)));
           accepted = accepted;
           many = many;
         }
@@ -112,6 +115,9 @@ module _ {table : List ℤ} {ws : List ℕ} {cs : List ℤ} {count : ℕ} (f : F
 
   last-held : firstTerms count lentWords lentCoefficients ≡ lastSum (f .es)
   last-held = ap₂ (firstTerms count) (lent (lastOf table) ws) (lent (lastOf table) cs) ∙ f .terms-are
+
+  pub valid : EachValid (take count (midOf (mostTerms * lastOf table) (span (lastOf table)) ws))
+  valid = subst (λ l. EachValid (take count l)) (sym (lent (lastOf table) ws)) (f .words-valid)
 
   module _ (area : List ℕ) (room : mostBytes variables ≤ length area) where
     pub has-room : 0 + length (packed (firstTerms count lentWords lentCoefficients)) ≤ length area

@@ -21,7 +21,7 @@ use Rattle.nodes.specs.declared.Kind as code
 use Rattle.nodes.specs.Node.{Kind.integer, Kind.variable, Kind.power, kindOf}
 use Rattle.nodes.specs.Formal.{formalDegree, formalWeight, nodeSpread, nodeSum}
 use Rattle.sums.proofs.Holding.{terms-many, holdable}
-use Rattle.sums.proofs.Fronts.{Front, front-written, front-is}
+use Rattle.sums.proofs.Fronts.{Placed, placed-written, placed-is}
 use Rattle.sums.specs.Part.{part}
 use Rattle.nodes.specs.Work.{twoOf, pairOf, sumAt, sumsAt, Keeps, nodeFormed, FormedAt, Ready}
 use Rattle.sums.proofs.Parts.{span, lent, lent-length, part-length, part-put, before-put, after-put}
@@ -105,13 +105,13 @@ module _ (s t : Sum) (multiply : Bool) where
 -- the terms of node a, copied to two arrays
 pub operand : {i : ℕ} {ns : List ℕ} {ws : List ℕ} {cs : List ℤ} → Keeps i ns ws cs → (a : ℕ) → a < i → i < mostNodes → workPlaces ≤ length ws → (sp₀ : List ℕ) (sc₀ : List ℤ)
     {sp : List ℕ} {sc : List ℤ} {count : ℕ} → count ≡ getD ns a 0 → sp ≡ written (take (getD ns a 0) (part a ws)) sp₀ → sc ≡ written (take (getD ns a 0) (part a cs)) sc₀
-    → mostTerms ≡ length sp → mostTerms ≡ length sc → Front (sumAt ns ws cs a) sp sc count
-operand {i} {ns} {ws} {cs} k a before inside room sp₀ sc₀ {sp} {sc} {count} is words coefficients room-p room-c =
+    → Placed (sumAt ns ws cs a) count sp sc
+operand {i} {ns} {ws} {cs} k a before inside room sp₀ sc₀ is words coefficients =
     let n = getD ns a 0 in
     let held = k .holds a before in
     let many : length (take n (part a ws)) ≡ n = length-take-le n (part a ws) (omega (arith, part-length a ws (omega arith), k .few a before)) in
-    front-written sp₀ sc₀ (words ∙ ap (λ l. written l sp₀) (held .words-are)) (coefficients ∙ ap (λ l. written l sc₀) (held .coefficients-are)) (terms-many held ∙ many ∙ sym is)
-    (holdable held) room-p room-c
+    placed-written sp₀ sc₀ (words ∙ ap (λ l. written l sp₀) (held .words-are)) (coefficients ∙ ap (λ l. written l sc₀) (held .coefficients-are)) (terms-many held ∙ many ∙ sym is)
+    (holdable held)
 
 -- two nodes of a list are the nodes 0 and 1 of their own
 module _ (ss : List Sum) (multiply : Bool) (a b : ℕ) {ps : List Sum} (is : ps ≡ getD ss a [] ∷ getD ss b [] ∷ []) where
@@ -154,12 +154,12 @@ module _ (ss : List Sum) (a e : ℕ) {s : Sum} (is : s ≡ getD ss a []) where
   base-formed = ap (λ t. powerOf t e) is
 
 -- the slices of an operand
-pub operand-is : {i : ℕ} {ns : List ℕ} {ws : List ℕ} {cs : List ℤ} → Keeps i ns ws cs → (a : ℕ) → a < i → {sp : List ℕ} {sc : List ℤ} {n : ℕ} → Front (sumAt ns ws cs a) sp sc n
+pub operand-is : {i : ℕ} {ns : List ℕ} {ws : List ℕ} {cs : List ℤ} → Keeps i ns ws cs → (a : ℕ) → a < i → {sp : List ℕ} {sc : List ℤ} {n : ℕ} → Placed (sumAt ns ws cs a) n sp sc
     → firstTerms n sp sc ≡ getD (sumsAt i ns ws cs) a []
-operand-is {i} {ns} {ws} {cs} k a before f = front-is f ∙ sym (sum-there ns ws cs i a before)
+operand-is {i} {ns} {ws} {cs} k a before f = placed-is f ∙ sym (sum-there ns ws cs i a before)
 
 -- the slices of two operands
-pub operands : {i : ℕ} {ns : List ℕ} {ws : List ℕ} {cs : List ℤ} → Keeps i ns ws cs → (a b : ℕ) → a < i → b < i → {sp tp : List ℕ} {sc tc : List ℤ} {n m : ℕ} → Front (sumAt ns ws cs a) sp sc n → Front (sumAt ns ws cs b) tp tc m
+pub operands : {i : ℕ} {ns : List ℕ} {ws : List ℕ} {cs : List ℤ} → Keeps i ns ws cs → (a b : ℕ) → a < i → b < i → {sp tp : List ℕ} {sc tc : List ℤ} {n m : ℕ} → Placed (sumAt ns ws cs a) n sp sc → Placed (sumAt ns ws cs b) m tp tc
     → pairOf (take n sp) (take n sc) (take m tp) (take m tc) ≡ getD (sumsAt i ns ws cs) a [] ∷ getD (sumsAt i ns ws cs) b [] ∷ []
 operands k a b before-a before-b f g =
     ap₂ (λ (s t : Sum). s ∷ t ∷ []) (operand-is k a before-a f) (operand-is k b before-b g)

@@ -6,7 +6,7 @@ use sums::Formed;
 ghost use mathlib.Core.Path.{_≡_};
 ghost use mathlib.Core.List.{map};
 ghost use Prim.Native.Nat.{_+_, _*_, _≤_, _<_};
-ghost use lib.ListN.{length, take};
+ghost use lib.ListN.{length, getD, take};
 ghost use Rattle.algebra.specs.Limits.{largestDegree, mostTerms, largestWeight, mostNodes, workPlaces};
 ghost use Rattle.algebra.specs.Sum.{degreeOf, weight};
 ghost use Rattle.answers.specs.Areas.{written};
@@ -16,6 +16,9 @@ ghost use Rattle.nodes.specs.Node.{kindOf, Kind.power};
 ghost use Rattle.nodes.specs.Formal.{formalDegree, formalWeight};
 ghost use Rattle.sums.specs.Part.{part};
 ghost use Rattle.nodes.specs.Work.{sumsAt, nodeFormed, Ready, FormedAt, twoOf, pairOf};
+
+// Where a few terms are copied.
+const FEW_TERMS: usize = 8;
 
 // The n terms of an earlier node, copied to arrays: two parts of one area cannot be lent at once.
 fn copy_operand(
@@ -29,8 +32,8 @@ fn copy_operand(
     requires { ⌜ mostTerms * node + mostTerms ≤ length (now patterns) ⌝ }
     requires { ⌜ mostTerms * node + mostTerms ≤ length (now coefficients) ⌝ }
     requires { ⌜ n ≤ mostTerms ⌝ }
-    requires { ⌜ mostTerms ≤ length (now sp) ⌝ }
-    requires { ⌜ mostTerms ≤ length (now sc) ⌝ }
+    requires { ⌜ n ≤ length (now sp) ⌝ }
+    requires { ⌜ n ≤ length (now sc) ⌝ }
     ensures { λ r. ⌜ now (sp .exit) ≡ written (take n (part node (now (patterns .entry)))) (now (sp .entry)) ⌝ }
     ensures { λ r. ⌜ now (sc .exit) ≡ written (take n (part node (now (coefficients .entry)))) (now (sc .entry)) ⌝ }
 {
@@ -83,27 +86,31 @@ fn form_pair(
     )
 }
 
-// The sum or the product of two earlier nodes, into the part of node i.
-fn form_two(
+// The sum or the product of two earlier nodes, into the part of node i, by way of four arrays that have room for the operands.
+fn form_by(
     multiply: bool,
     a: usize,
     b: usize,
     i: usize,
     counts: &[usize],
+    sp: &mut [u64],
+    sc: &mut [i64],
+    tp: &mut [u64],
+    tc: &mut [i64],
     patterns: &mut [u64],
     coefficients: &mut [i64],
 ) -> Formed
     requires { ⌜ Ready i (now counts) (now patterns) (now coefficients) (twoOf multiply a b) ⌝ }
+    requires { ⌜ getD (now counts) a 0 ≤ length (now sp) ⌝ }
+    requires { ⌜ getD (now counts) a 0 ≤ length (now sc) ⌝ }
+    requires { ⌜ getD (now counts) b 0 ≤ length (now tp) ⌝ }
+    requires { ⌜ getD (now counts) b 0 ≤ length (now tc) ⌝ }
     ensures { λ r. ⌜ FormedAt i (nodeFormed (sumsAt i (now (counts .entry)) (now (patterns .entry)) (now (coefficients .entry))) (twoOf multiply a b)) (formedOf r) (now (patterns .entry)) (now (coefficients .entry)) (now (patterns .exit)) (now (coefficients .exit)) ⌝ }
 {
-    let mut sp = [0u64; MOST_TERMS];
-    let mut sc = [0i64; MOST_TERMS];
-    let mut tp = [0u64; MOST_TERMS];
-    let mut tc = [0i64; MOST_TERMS];
     let n = counts[a];
     let m = counts[b];
-    copy_operand(a, n, patterns, coefficients, &mut sp, &mut sc);
-    copy_operand(b, m, patterns, coefficients, &mut tp, &mut tc);
+    copy_operand(a, n, patterns, coefficients, sp, sc);
+    copy_operand(b, m, patterns, coefficients, tp, tc);
     form_pair(
         multiply,
         &sp[0..n],
@@ -116,7 +123,88 @@ fn form_two(
     )
 }
 
-// A power, into the part of node i.
+// The same, by way of small arrays if both operands are small: to clear large ones would take longer than to form the sum.
+fn form_two(
+    multiply: bool,
+    a: usize,
+    b: usize,
+    i: usize,
+    counts: &[usize],
+    patterns: &mut [u64],
+    coefficients: &mut [i64],
+) -> Formed
+    requires { ⌜ Ready i (now counts) (now patterns) (now coefficients) (twoOf multiply a b) ⌝ }
+    ensures { λ r. ⌜ FormedAt i (nodeFormed (sumsAt i (now (counts .entry)) (now (patterns .entry)) (now (coefficients .entry))) (twoOf multiply a b)) (formedOf r) (now (patterns .entry)) (now (coefficients .entry)) (now (patterns .exit)) (now (coefficients .exit)) ⌝ }
+{
+    if counts[a] <= FEW_TERMS {
+        if counts[b] <= FEW_TERMS {
+            let mut sp = [0u64; FEW_TERMS];
+            let mut sc = [0i64; FEW_TERMS];
+            let mut tp = [0u64; FEW_TERMS];
+            let mut tc = [0i64; FEW_TERMS];
+            return form_by(
+                multiply,
+                a,
+                b,
+                i,
+                counts,
+                &mut sp,
+                &mut sc,
+                &mut tp,
+                &mut tc,
+                patterns,
+                coefficients,
+            );
+        }
+    }
+    let mut sp = [0u64; MOST_TERMS];
+    let mut sc = [0i64; MOST_TERMS];
+    let mut tp = [0u64; MOST_TERMS];
+    let mut tc = [0i64; MOST_TERMS];
+    form_by(
+        multiply,
+        a,
+        b,
+        i,
+        counts,
+        &mut sp,
+        &mut sc,
+        &mut tp,
+        &mut tc,
+        patterns,
+        coefficients,
+    )
+}
+
+// A power, into the part of node i, by way of two arrays that have room for the base.
+fn power_by(
+    a: usize,
+    e: u64,
+    i: usize,
+    counts: &[usize],
+    sp: &mut [u64],
+    sc: &mut [i64],
+    patterns: &mut [u64],
+    coefficients: &mut [i64],
+) -> Formed
+    requires { ⌜ Ready i (now counts) (now patterns) (now coefficients) (power a e) ⌝ }
+    requires { ⌜ getD (now counts) a 0 ≤ length (now sp) ⌝ }
+    requires { ⌜ getD (now counts) a 0 ≤ length (now sc) ⌝ }
+    ensures { λ r. ⌜ FormedAt i (nodeFormed (sumsAt i (now (counts .entry)) (now (patterns .entry)) (now (coefficients .entry))) (power a e)) (formedOf r) (now (patterns .entry)) (now (coefficients .entry)) (now (patterns .exit)) (now (coefficients .exit)) ⌝ }
+{
+    let n = counts[a];
+    copy_operand(a, n, patterns, coefficients, sp, sc);
+    let start = MOST_TERMS * i;
+    let end = start + MOST_TERMS;
+    sums::power(
+        &sp[0..n],
+        &sc[0..n],
+        e,
+        &mut patterns[start..end],
+        &mut coefficients[start..end],
+    )
+}
+
 fn form_power(
     a: usize,
     e: u64,
@@ -128,19 +216,14 @@ fn form_power(
     requires { ⌜ Ready i (now counts) (now patterns) (now coefficients) (power a e) ⌝ }
     ensures { λ r. ⌜ FormedAt i (nodeFormed (sumsAt i (now (counts .entry)) (now (patterns .entry)) (now (coefficients .entry))) (power a e)) (formedOf r) (now (patterns .entry)) (now (coefficients .entry)) (now (patterns .exit)) (now (coefficients .exit)) ⌝ }
 {
+    if counts[a] <= FEW_TERMS {
+        let mut sp = [0u64; FEW_TERMS];
+        let mut sc = [0i64; FEW_TERMS];
+        return power_by(a, e, i, counts, &mut sp, &mut sc, patterns, coefficients);
+    }
     let mut sp = [0u64; MOST_TERMS];
     let mut sc = [0i64; MOST_TERMS];
-    let n = counts[a];
-    copy_operand(a, n, patterns, coefficients, &mut sp, &mut sc);
-    let start = MOST_TERMS * i;
-    let end = start + MOST_TERMS;
-    sums::power(
-        &sp[0..n],
-        &sc[0..n],
-        e,
-        &mut patterns[start..end],
-        &mut coefficients[start..end],
-    )
+    power_by(a, e, i, counts, &mut sp, &mut sc, patterns, coefficients)
 }
 
 // The terms of node i: the part of both work areas that starts at 128 × i is lent on for them.

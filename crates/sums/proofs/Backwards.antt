@@ -1,11 +1,10 @@
 -- An area that is written from the back: before place k it is as it was, the values stand from there to place m, and the rest is as it was.
 use mathlib.Core.Path.{_≡_, refl, sym, _∙_, ap}
-use mathlib.Core.List.{List, [], _∷_, _++_, append-assoc}
+use mathlib.Core.List.{List, [], _∷_, _++_}
 use Prim.Native.Nat.{ℕ, suc, _+_, _-_, _≤_, _<_}
 use native.Mathlib.Omega.{arith}
-use lib.ListN.{length, getD, take, drop, set, length-append, length-set, take-append-drop, List·getD-append}
-use lib.Seq.{length-take-le, take-suc, take-take, take-append-le, getD-take, append-snoc, set-at}
-use Rattle.answers.specs.Areas.{written}
+use lib.ListN.{length, getD, take, drop, set, length-set, take-append-drop, List·getD-append}
+use lib.Seq.{length-take-le, take-suc, take-take, take-append-le, getD-take, append-snoc, set-at, take-at, drop-at}
 
 pub record Backwards {A : Type 0} (area₀ : List A) (m : ℕ) (area : List A) (k : ℕ) (values : List A) : Type 0 where
   pub so-far : area ≡ take k area₀ ++ (values ++ drop m area₀)
@@ -45,7 +44,9 @@ module _ {A : Type 0} {area₀ : List A} {m : ℕ} {area : List A} {k : ℕ} {va
   pub front-kept : (i : ℕ) → i ≤ k → take i area ≡ take i area₀
   front-kept i h = ap (take i) (b .so-far) ∙ take-append-le i (take k area₀) (values ++ drop m area₀) (omega (arith, front)) ∙ take-take i k area₀ h
 
-  pub ended : area ≡ written (take k area₀ ++ values) area₀
-  ended =
-      let all : length (take k area₀ ++ values) ≡ m = omega (arith, length-append (take k area₀) values, front, b .place) in
-      b .so-far ∙ sym (append-assoc (take k area₀) values (drop m area₀)) ∙ ap (λ (i : ℕ). (take k area₀ ++ values) ++ drop i area₀) (sym all)
+  -- the values stand from place k on
+  pub behind : take (m - k) (drop k area) ≡ values
+  behind =
+      ap (λ (l : List A). take (m - k) (drop k l)) (b .so-far)
+      ∙ ap (take (m - k)) (drop-at (take k area₀) (values ++ drop m area₀) k front)
+      ∙ take-at values (drop m area₀) (m - k) (omega (arith, b .place))

@@ -16,10 +16,11 @@ use Rattle.algebra.proofs.Sums.Occurs.{spread-gather}
 use Rattle.sums.specs.Formed.{formedOf, Formed.formed, within, formedInto}
 use Rattle.sums.specs.declared.Formed as declared
 use Rattle.sums.specs.declared.Formed.the-variants.{Terms}
+use Rattle.sums.specs.Rows.{Stands}
 use Rattle.sums.proofs.Holding.{Holdable}
 use Rattle.sums.proofs.Forming.{within-yes}
 use Rattle.sums.proofs.Answering.{given}
-use Rattle.sums.proofs.Fronts.{Front, front-written, front-few, front-is}
+use Rattle.sums.proofs.Fronts.{Placed, placed-is, Front, front-placed, front-written}
 
 module _ (l : List Term) where
   pub gathered : Every (Long variables) l → Every (UpTo largestDegree) l → spread l ≤ mostTerms → Holdable (gather l)
@@ -39,8 +40,15 @@ module _ (l : List Term) where
       front-written ws cs (g .words-are) (g .coefficients-are) (g .many ∙ sym part) (gathered long low (g .few))
       (omega (arith, before .words-room)) (omega (arith, before .coefficients-room))
 
-  pub finished : {ws : List ℕ} {cs : List ℤ} {all : ℕ} → Front (gather l) ws cs all → formed (dropZeros (firstTerms all ws cs)) ≡ within (spread l) (collect l)
+  -- a list whose spread is at most 128
+  pub gathered-placed : Every (Long variables) l → Every (UpTo largestDegree) l → spread l ≤ mostTerms → {n : ℕ} {ws : List ℕ} {cs : List ℤ} → Stands (gather l) n ws cs → Placed (gather l) n ws cs
+  gathered-placed long low few stands = record { stands = stands; holdable = gathered long low few }
+
+  pub placed-finished : {n : ℕ} {ws : List ℕ} {cs : List ℤ} → Placed (gather l) n ws cs → formed (dropZeros (firstTerms n ws cs)) ≡ within (spread l) (collect l)
   unfolding collect
-  finished f =
-      let few : spread l ≤ mostTerms = omega (arith, spread-gather l, f .many, front-few f) in
-      ap (λ s. formed (dropZeros s)) (front-is f) ∙ sym (within-yes (spread l) (dropZeros (gather l)) few)
+  placed-finished p =
+      let few : spread l ≤ mostTerms = omega (arith, spread-gather l, p .holdable .few) in
+      ap (λ s. formed (dropZeros s)) (placed-is p) ∙ sym (within-yes (spread l) (dropZeros (gather l)) few)
+
+  pub finished : {ws : List ℕ} {cs : List ℤ} {all : ℕ} → Front (gather l) ws cs all → formed (dropZeros (firstTerms all ws cs)) ≡ within (spread l) (collect l)
+  finished f = placed-finished (front-placed f)

@@ -12,7 +12,7 @@ use lib.Seq.{take-suc}
 use Rattle.algebra.specs.Limits.{variables, largestDegree, mostTerms}
 use Rattle.algebra.specs.Pattern.{Pattern, degree}
 use Rattle.algebra.specs.Sum.{Term, term, Sum, inOrder, degreeOf, weight}
-use Rattle.algebra.specs.Word.{word, exponents, terms}
+use Rattle.algebra.specs.Word.{word, exponents, terms, EachValid}
 use Rattle.algebra.specs.Held.{wordFor, wordsOf, coefficientsOf}
 use Rattle.algebra.specs.Accepted.{Accepted}
 use Rattle.algebra.proofs.Patterns.Word.{exponents-length}
@@ -20,7 +20,7 @@ use Rattle.algebra.proofs.Patterns.Held.{held-length, held-at}
 use Rattle.algebra.proofs.Sums.Held.{word-for, terms-long, terms-again}
 use Rattle.algebra.proofs.Sums.Every.{Every, Long, UpTo, degree-every}
 use Rattle.algebra.proofs.Sums.Ordered.{parts}
-use Rattle.sums.specs.Held.{EachValid, Held, HeldSum}
+use Rattle.sums.specs.Held.{Held, HeldSum}
 
 -- ---- One place of a list.
 

@@ -9,12 +9,14 @@ pub mod Single
 pub mod Fronts
 pub mod Standing
 pub mod Merging
-pub mod Counting
+pub mod Closing
 pub mod Backwards
 pub mod Moving
 pub mod Gathering
 pub mod Adding
 pub mod Multiplying
+pub mod Pairing
+pub mod Clearing
 pub mod Raising
 pub mod Parts
 pub mod Unique

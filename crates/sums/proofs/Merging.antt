@@ -1,22 +1,20 @@
 -- A row merged into a running sum from the back, on lists of terms: i terms of the sum and j of the row are left, and what they give stands
 -- before what was merged already.
 use mathlib.Core.Path.{_≡_, refl, sym, _∙_, ap, subst}
-use mathlib.Core.List.{[], _∷_, _++_, append-assoc, append-nil}
+use mathlib.Core.List.{[], _∷_, _++_, append-nil}
 use Prim.Native.Nat.{ℕ, zero, suc, _+_, _-_, _≤_, _<_, Ordering·lt, Ordering·eq, Ordering·gt}
 use native.Mathlib.Omega.{arith}
 use lib.Dec.{T}
 use lib.IntN.{pos, _+ℤ_}
-use lib.ListN.{length, getD, take, drop, length-append, take-append-drop, drop-of-length-le}
-use lib.Seq.{length-take-le, take-all, take-suc, drop-cons, append-snoc}
+use lib.ListN.{length, getD, take, drop, drop-of-length-le}
+use lib.Seq.{take-all, take-suc, drop-cons, append-snoc}
 use Rattle.algebra.specs.Pattern.{Pattern, order}
 use Rattle.algebra.specs.Sum.{Term, term, Sum, ahead, inOrder}
-use Rattle.algebra.specs.Collect.{place, insert, gather, spread}
+use Rattle.algebra.specs.Collect.{place, insert, gather}
 use Rattle.algebra.proofs.Patterns.Order.{order-turn, order-trans, order-eq}
 use Rattle.algebra.proofs.Numbers.Compare.{turn}
 use Rattle.algebra.proofs.Sums.Every.{Every, every-map, append-every}
 use Rattle.algebra.proofs.Sums.Ordered.{before-is, is-before, order-back, order-cons, order-head, order-tail, gather-order, gather-fixed}
-use Rattle.algebra.proofs.Sums.Occurs.{spread-gather}
-use Rattle.algebra.proofs.Sums.Spreads.{spread-rises}
 use Rattle.sums.proofs.Standing.{lastStands, some-stands}
 
 -- ---- Insertion past the terms that stand before.
@@ -111,21 +109,6 @@ all-before s (suc i) q rest inside k e =
     (append-every (Before q) (take (suc i - 1) s) (u ∷ []) (every-map (λ p h. order-trans p (u .pattern) q h last) (take (suc i - 1) s) front) (last, tt))
 
 module _ {running row : Sum} {i j : ℕ} {merged : Sum} (m : Merging running row i j merged) where
-  -- as many terms as there are different patterns so far
-  pub room : i + length merged ≤ spread (row ++ running)
-  room =
-      let rest = drop j row ++ running in
-      let whole : take j row ++ rest ≡ row ++ running = sym (append-assoc (take j row) (drop j row) running) ∙ ap (λ l. l ++ running) (take-append-drop j row) in
-      omega (
-        arith,
-        ap spread whole,
-        spread-rises (take j row) rest,
-        spread-gather rest,
-        ap length (m .sum),
-        length-append (take i running) merged,
-        length-take-le i running (m .inside),
-      )
-
   strict : T (inOrder (take i running ++ merged))
   strict = subst (λ l. T (inOrder l)) (m .sum) (gather-order (drop j row ++ running))
 
@@ -195,8 +178,3 @@ module _ {running row : Sum} {i j : ℕ} {merged : Sum} (m : Merging running row
         sum = m .sum ∙ regrouped;
         ready = λ h. is-before _ (order-back (u .pattern) (t .pattern) e);
       }
-
--- there is a place for what is put in next
-pub one-more : {running row : Sum} {i j : ℕ} {merged : Sum} → Merging running row i j merged → 0 < j → length merged < spread (row ++ running)
-one-more {i = zero} m more = omega (arith, room (goes-in m more refl))
-one-more {i = suc i} m more = omega (arith, room m)

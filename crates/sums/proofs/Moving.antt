@@ -1,44 +1,36 @@
 -- What the loop keeps that merges a row into the areas of a running sum: what was merged stands behind, and what is left of the sum where it was.
 use mathlib.Core.Path.{_≡_, refl, sym, _∙_, ap, ap₂, subst}
 use mathlib.Core.List.{List, [], _∷_, _++_, map, map-append}
-use Prim.Native.Nat.{ℕ, zero, suc, _+_, _-_, _≤_, _<_, Ordering·lt, Ordering·eq, Ordering·gt}
+use Prim.Native.Nat.{ℕ, zero, suc, _+_, _*_, _-_, _≤_, _<_, Ordering·lt, Ordering·eq, Ordering·gt}
 use native.Mathlib.Omega.{arith}
-use lib.IntN.{ℤ, pos, natAbs, _+ℤ_}
-use lib.ListN.{length, getD, take, set, length-append, length-map}
+use lib.IntN.{ℤ, pos, natAbs, _+ℤ_, _*ℤ_}
+use lib.ListN.{length, getD, take, set}
 use lib.Seq.{length-take-le, getD-take, take-take}
 use mir.Syntax.{w64}
-use mir.Val.{SFits, ofZ, toZ}
-use mir.ValLaws.{toZ-ofZ}
-use Rattle.algebra.specs.Limits.{mostTerms, largestWeight}
-use Rattle.algebra.specs.Pattern.{Pattern}
+use mir.Val.{SFits}
+use Rattle.algebra.specs.Limits.{variables, largestDegree}
+use Rattle.algebra.specs.Pattern.{Pattern, times, degree}
 use Rattle.algebra.specs.Sum.{Term, term, Sum, weight}
-use Rattle.algebra.specs.Collect.{gather, spread}
-use Rattle.algebra.specs.Word.{exponents, terms, Valid}
+use Rattle.algebra.specs.Arithmetic.{row}
+use Rattle.algebra.specs.Word.{word, exponents, terms, Valid, EachValid}
 use Rattle.algebra.specs.Held.{wordFor, wordsOf, coefficientsOf, firstTerms}
 use Rattle.algebra.proofs.Numbers.Absolute.{abs-add}
-use Rattle.answers.proofs.Signed.{fits-abs}
-use Rattle.algebra.proofs.Patterns.Word.{exponents-length}
-use Rattle.algebra.proofs.Sums.Occurs.{spread-gather}
-use Rattle.answers.specs.Areas.{written}
+use Rattle.algebra.proofs.Patterns.Laws.{times-length, degree-times}
+use Rattle.algebra.proofs.Patterns.Word.{exponents-length, exponents-word, product-valid}
 use Rattle.algebra.proofs.Sums.Held.{word-for}
-use Rattle.sums.specs.Held.{EachValid, Held}
-use Rattle.sums.proofs.Holding.{as-many, terms-many, term-at, size-at, each-valid}
+use Rattle.answers.proofs.Signed.{fits-abs}
+use Rattle.sums.specs.Held.{Held}
+use Rattle.sums.specs.Rows.{CanMerge, joined, closed, Gapped}
+use Rattle.sums.proofs.Holding.{as-many, terms-many, term-at, size-at, each-valid, holdable}
 use Rattle.sums.proofs.Standing.{lastStands, there-is, fewer-valid}
+use Rattle.sums.proofs.MakeRow.{row-length, row-term, low-enough, product-size, product-fits}
+use Rattle.sums.proofs.Multiplying.{row-held}
 use Rattle.sums.proofs.Merging as merging
-use Rattle.sums.proofs.Merging.{none, Merging, room, one-more, goes-in, adds-up, moves}
-use Rattle.sums.proofs.Counting.{patterns-stand}
+use Rattle.sums.proofs.Merging.{none, Merging, goes-in, adds-up, moves}
 use Rattle.sums.proofs.Backwards as backwards
-use Rattle.sums.proofs.Backwards.{Backwards, kept, front-kept}
+use Rattle.sums.proofs.Backwards.{Backwards, kept, front-kept, behind}
 
 -- ---- Words and coefficients of terms.
-
--- a term that a valid word spells has that word
-word-of : {t : Term} {c : ℤ} {w : ℕ} → t ≡ term c (exponents w) → Valid w → w ≡ wordFor (t .pattern)
-word-of {t} {c} {w} e valid = sym (ap (λ (u : Term). wordFor (u .pattern)) e ∙ word-for (exponents w) (exponents-length w) ∙ valid .is)
-
--- a coefficient as the code passes it on
-abbrev inMachine : ℤ → ℤ
-inMachine z = toZ w64 (ofZ w64 z)
 
 coefficient-of : {t : Term} {c : ℤ} {p : Pattern} → t ≡ term c p → c ≡ t .coefficient
 coefficient-of e = sym (ap (λ (u : Term). u .coefficient) e)
@@ -49,181 +41,182 @@ map-take f (suc i) [] = refl
 map-take f (suc i) (x ∷ l) = ap (λ r. f x ∷ r) (map-take f i l)
 
 -- the terms that are left in the first places of an area, and those that were merged behind them, are all
-all-written : {A : Type 0} (f : Term → A) {area₀ area : List A} {m k : ℕ} (running merged : Sum) (n i : ℕ) → Backwards area₀ m area k (map f merged) → k ≡ i
-    → take n area₀ ≡ map f running → i ≤ n → {all : Sum} → all ≡ take i running ++ merged → area ≡ written (map f all) area₀
-all-written {A = A} f {area₀} running merged n i b at-end held inside all =
-    backwards.ended b
-    ∙ ap (λ (l : List A). written l area₀)
-    (ap (λ (k : ℕ). take k area₀ ++ map f merged) at-end
-    ∙ ap (λ (l : List A). l ++ map f merged) (sym (take-take i n area₀ inside) ∙ ap (take i) held ∙ sym (map-take f i running))
-    ∙ sym (ap (map f) all ∙ map-append f (take i running) merged))
+all-stands : {A : Type 0} (f : Term → A) {area₀ area : List A} {m k : ℕ} (running merged : Sum) (n i : ℕ) → Backwards area₀ m area k (map f merged) → i ≤ k
+    → take n area₀ ≡ map f running → i ≤ n → {all : Sum} → all ≡ take i running ++ merged → closed i k m area ≡ map f all
+all-stands f {area₀} running merged n i b room held inside all =
+    ap₂ _++_ (front-kept b i room ∙ sym (take-take i n area₀ inside) ∙ ap (take i) held ∙ sym (map-take f i running)) (behind b)
+    ∙ sym (ap (map f) all ∙ map-append f (take i running) merged)
+
+-- the code compares the patterns of the terms: `now` has the last of them where `ws` has it
+last-pattern : (ws : List ℕ) (n : ℕ) {cs : List ℤ} → Held (take n ws) cs → n ≤ length ws → (i : ℕ) → i ≤ n → (now : List ℕ) → (0 < i → getD now (i - 1) 0 ≡ getD ws (i - 1) 0) → (q : Pattern)
+    → lastStands i (getD (terms (take n ws) cs) (i - 1) none .pattern) q ≡ lastStands i (exponents (getD now (i - 1) 0)) q
+last-pattern ws n held enough zero inside now kept q = refl
+last-pattern ws n held enough (suc i) inside now kept q =
+    ap (λ p. lastStands (suc i) p q)
+    (ap (λ (t : Term). t .pattern) (term-at held (suc i - 1) (omega (arith, length-take-le n ws enough)) none)
+    ∙ ap exponents (getD-take n ws (suc i - 1) 0 (omega arith) ∙ sym (kept (omega arith))))
 
 -- ---- The loop.
 
--- what the merging begins with
-pub record Operands (ws : List ℕ) (cs : List ℤ) (n : ℕ) (rp : List ℕ) (rc : List ℤ) (together : ℕ) : Type 0 where
-  pub words-room : mostTerms ≤ length ws
-  pub coefficients-room : mostTerms ≤ length cs
-  pub few : n ≤ mostTerms
-  pub held : Held (take n ws) (take n cs)
-  pub row-held : Held rp rc
-  pub light : weight (terms rp rc) + weight (firstTerms n ws cs) ≤ largestWeight
-  pub count : together ≡ spread (terms rp rc ++ firstTerms n ws cs)
-  pub most : together ≤ mostTerms
+-- the row that is merged
+abbrev rowOf : ℤ → ℕ → List ℕ → List ℤ → Sum
+rowOf c w tp tc = row (term c (exponents w)) (terms tp tc)
 
-pub record Moving (ws₀ : List ℕ) (cs₀ : List ℤ) (n : ℕ) (rp : List ℕ) (rc : List ℤ) (together : ℕ) (ws : List ℕ) (cs : List ℤ) (i j k : ℕ) : Type 0 where
-  pub operands : Operands ws₀ cs₀ n rp rc together
+pub record Moving (ws₀ : List ℕ) (cs₀ : List ℤ) (n w : ℕ) (c : ℤ) (tp : List ℕ) (tc : List ℤ) (ws : List ℕ) (cs : List ℤ) (i j k : ℕ) : Type 0 where
+  pub can : CanMerge ws₀ cs₀ n w c tp tc
   pub merged : Sum
-  pub merging : Merging (firstTerms n ws₀ cs₀) (terms rp rc) i j merged
-  pub words : Backwards ws₀ together ws k (wordsOf merged)
-  pub coefficients : Backwards cs₀ together cs k (coefficientsOf merged)
+  pub merging : Merging (firstTerms n ws₀ cs₀) (rowOf c w tp tc) i j merged
+  pub words : Backwards ws₀ (n + length tp) ws k (wordsOf merged)
+  pub coefficients : Backwards cs₀ (n + length tp) cs k (coefficientsOf merged)
   pub inside : i ≤ n
-  pub row-inside : j ≤ length rp
-  pub row-coefficients : j ≤ length rc
-  pub room : i ≤ k
+  pub row-inside : j ≤ length tp
+  pub row-coefficients : j ≤ length tc
+  -- what is left has places before
+  pub room : i + j ≤ k
 
-module _ {ws₀ : List ℕ} {cs₀ : List ℤ} {n : ℕ} {rp : List ℕ} {rc : List ℤ} {together : ℕ} (g : Operands ws₀ cs₀ n rp rc together) where
-  abbrev running : Sum
-  running = firstTerms n ws₀ cs₀
-
-  abbrev row : Sum
-  row = terms rp rc
-
+module _ {ws₀ : List ℕ} {cs₀ : List ℤ} {n w : ℕ} {c : ℤ} {tp : List ℕ} {tc : List ℤ} (g : CanMerge ws₀ cs₀ n w c tp tc) where
   enough : n ≤ length ws₀
-  enough = omega (arith, g .words-room, g .few)
+  enough = omega (arith, g .words-room)
 
   running-many : length (firstTerms n ws₀ cs₀) ≡ n
-  running-many = terms-many (g .held) ∙ length-take-le n ws₀ enough
+  running-many = terms-many (g .running) ∙ length-take-le n ws₀ enough
+
+  row-many : length (rowOf c w tp tc) ≡ length tp
+  row-many = row-length (term c (exponents w)) (terms tp tc) ∙ terms-many (g .factor)
 
   -- the bounds follow from the rest
-  moving : {ws : List ℕ} {cs : List ℤ} {i j k : ℕ} {merged : Sum} → Merging running row i j merged → Backwards ws₀ together ws k (wordsOf merged)
-      → Backwards cs₀ together cs k (coefficientsOf merged) → Moving ws₀ cs₀ n rp rc together ws cs i j k
-  moving {merged = merged} m b d = record {
-    operands = g;
+  moving : {ws : List ℕ} {cs : List ℤ} {i j k : ℕ} {merged : Sum} → Merging (firstTerms n ws₀ cs₀) (rowOf c w tp tc) i j merged
+      → Backwards ws₀ (n + length tp) ws k (wordsOf merged) → Backwards cs₀ (n + length tp) cs k (coefficientsOf merged) → i + j ≤ k
+      → Moving ws₀ cs₀ n w c tp tc ws cs i j k
+  moving {merged = merged} m b d room = record {
+    can = g;
     merged = merged;
     merging = m;
     words = b;
     coefficients = d;
     inside = omega (arith, m .inside, running-many);
-    row-inside = omega (arith, m .row-inside, terms-many (g .row-held));
-    row-coefficients = omega (arith, m .row-inside, terms-many (g .row-held), as-many (g .row-held));
-    room = omega (arith, room m, g .count, b .place, length-map merged (λ (t : Term). wordFor (t .pattern)));
+    row-inside = omega (arith, m .row-inside, row-many);
+    row-coefficients = omega (arith, m .row-inside, row-many, as-many (g .factor));
+    room = room;
   }
 
-  pub start : Moving ws₀ cs₀ n rp rc together ws₀ cs₀ n (length rp) together
+  pub start : Moving ws₀ cs₀ n w c tp tc ws₀ cs₀ n (length tp) (n + length tp)
   start =
-      moving (merging.start running row running-many (terms-many (g .row-held)) (g .held .strict) (g .row-held .strict))
-      (backwards.start ws₀ together (omega (arith, g .words-room, g .most))) (backwards.start cs₀ together (omega (arith, g .coefficients-room, g .most)))
+      let held = row-held (term c (exponents w)) (exponents-length w) (holdable (g .factor)) (g .low) in
+      moving (merging.start (firstTerms n ws₀ cs₀) (rowOf c w tp tc) running-many row-many (g .running .strict) (held .strict))
+      (backwards.start ws₀ (n + length tp) (g .words-room)) (backwards.start cs₀ (n + length tp) (g .coefficients-room)) (omega arith)
 
-module _ {ws₀ : List ℕ} {cs₀ : List ℤ} {n : ℕ} {rp : List ℕ} {rc : List ℤ} {together : ℕ} {ws : List ℕ} {cs : List ℤ} {i j k : ℕ} (v : Moving ws₀ cs₀ n rp rc together ws cs i j k) where
+module _ {ws₀ : List ℕ} {cs₀ : List ℤ} {n w : ℕ} {c : ℤ} {tp : List ℕ} {tc : List ℤ} {ws : List ℕ} {cs : List ℤ} {i j k : ℕ} (v : Moving ws₀ cs₀ n w c tp tc ws cs i j k) where
   -- what is left of the sum has valid words
   pub left-valid : EachValid (take i ws)
   left-valid =
-      subst EachValid (sym (front-kept (v .words) i (v .room))) (fewer-valid ws₀ n (enough (v .operands)) (each-valid (v .operands .held)) i (v .inside))
+      subst EachValid (sym (front-kept (v .words) i (omega (arith, v .room)))) (fewer-valid ws₀ n (enough (v .can)) (each-valid (v .can .running)) i (v .inside))
 
   -- at the end all of the sum that is left stands where it was
-  pub ended : j ≤ 0
-      → (ws ≡ written (wordsOf (gather (terms rp rc ++ firstTerms n ws₀ cs₀))) ws₀) × (cs ≡ written (coefficientsOf (gather (terms rp rc ++ firstTerms n ws₀ cs₀))) cs₀)
+  pub ended : j ≤ 0 → Gapped (joined c w tp tc n ws₀ cs₀) ws cs i k (n + length tp)
   ended h =
       let s = firstTerms n ws₀ cs₀ in
       let all = merging.ended (v .merging) h in
-      let at-end : k ≡ i = omega (
-        arith,
-        v .operands .count,
-        spread-gather (terms rp rc ++ s),
-        ap length all,
-        length-append (take i s) (v .merged),
-        length-take-le i s (v .merging .inside),
-        v .words .place,
-        length-map (v .merged) (λ (t : Term). wordFor (t .pattern)),
-      ) in
-      let held = v .operands .held in (
-        all-written (λ (t : Term). wordFor (t .pattern)) s (v .merged) n i (v .words) at-end (held .words-are) (v .inside) all,
-        all-written (λ (t : Term). t .coefficient) s (v .merged) n i (v .coefficients) at-end (held .coefficients-are) (v .inside) all,
-      )
+      let before : i ≤ k = omega (arith, v .room) in
+      let held = v .can .running in
+      record {
+        words-are = all-stands (λ (t : Term). wordFor (t .pattern)) s (v .merged) n i (v .words) before (held .words-are) (v .inside) all;
+        coefficients-are = all-stands (λ (t : Term). t .coefficient) s (v .merged) n i (v .coefficients) before (held .coefficients-are) (v .inside) all;
+        some = before;
+        inside = omega (arith, v .words .place);
+      }
 
   module _ (more : 0 < j) where
-    -- there is a place for the next term
-    pub next-place : 0 < k
-    next-place =
-        omega (arith, one-more (v .merging) more, v .operands .count, v .words .place, length-map (v .merged) (λ (t : Term). wordFor (t .pattern)))
+    next-inside : j - 1 < length tp
+    next-inside = omega (arith, v .row-inside)
 
-    -- the patterns that the code compares, and that they are those of the terms
+    -- the row's next term: its pattern, and its coefficient
     abbrev next : Pattern
-    next = exponents (getD rp (j - 1) 0)
+    next = times (exponents w) (exponents (getD tp (j - 1) 0))
 
-    abbrev last : Pattern
-    last = exponents (getD ws (i - 1) 0)
+    abbrev value : ℤ
+    value = c *ℤ getD tc (j - 1) (pos 0)
 
-    stand : lastStands i (getD (firstTerms n ws₀ cs₀) (i - 1) none .pattern) (getD (terms rp rc) (j - 1) none .pattern) ≡ lastStands i last next
-    stand =
-        patterns-stand ws₀ n (v .operands .held) (enough (v .operands)) (v .operands .row-held) i j (v .inside) more (v .row-inside) ws
-        (λ some. kept (v .words) (i - 1) 0 (omega (arith, v .room)))
+    next-is : getD (rowOf c w tp tc) (j - 1) none ≡ term value next
+    next-is = row-term (v .can .factor) (j - 1) next-inside w c none
 
-    next-is : getD (terms rp rc) (j - 1) none ≡ term (getD rc (j - 1) (pos 0)) next
-    next-is = term-at (v .operands .row-held) (j - 1) (omega (arith, v .row-inside)) none
+    next-long : length next ≡ variables
+    next-long = times-length variables (exponents w) (exponents (getD tp (j - 1) 0)) (exponents-length w) (exponents-length (getD tp (j - 1) 0))
 
-    pub next-valid : Valid (getD rp (j - 1) 0)
-    next-valid = each-valid (v .operands .row-held) (j - 1) (omega (arith, v .row-inside))
+    pub factor-valid : Valid (getD tp (j - 1) 0)
+    factor-valid = each-valid (v .can .factor) (j - 1) next-inside
 
-    -- a term more is merged, and written in both areas
-    put : {t : Term} {i' j' : ℕ} → Merging (firstTerms n ws₀ cs₀) (terms rp rc) i' j' (t ∷ v .merged) → {w : ℕ} → w ≡ wordFor (t .pattern) → {z : ℤ} → z ≡ t .coefficient
-        → Moving ws₀ cs₀ n rp rc together (set ws (k - 1) w) (set cs (k - 1) z) i' j' (k - 1)
-    put m word coefficient =
-        moving (v .operands) m (backwards.again (v .words) next-place _ word) (backwards.again (v .coefficients) next-place _ coefficient)
+    pub factor-low : degree (exponents w) + degree (exponents (getD tp (j - 1) 0)) ≤ largestDegree
+    factor-low = low-enough (v .can .factor) (j - 1) next-inside w (v .can .low)
 
-    next-size : natAbs (getD rc (j - 1) (pos 0)) ≤ weight (terms rp rc)
-    next-size = size-at (v .operands .row-held) (j - 1) (omega (arith, v .row-inside))
+    pub value-fits : SFits w64 (c *ℤ getD tc (j - 1) (pos 0))
+    value-fits = product-fits (v .can .factor) (j - 1) next-inside c (omega (arith, v .can .light))
 
-    next-fits : SFits w64 (getD rc (j - 1) (pos 0))
-    next-fits = fits-abs _ (omega (arith, next-size, v .operands .light))
+    -- x is the pattern's word
+    module _ {x : ℕ} (is : x ≡ word (times (exponents w) (exponents (getD tp (j - 1) 0)))) where
+      spelled : exponents x ≡ next
+      spelled = ap exponents is ∙ exponents-word next next-long (omega (arith, factor-low, degree-times (exponents w) (exponents (getD tp (j - 1) 0))))
 
-    pub new : lastStands i last next ≡ Ordering·lt
-        → Moving ws₀ cs₀ n rp rc together (set ws (k - 1) (getD rp (j - 1) 0)) (set cs (k - 1) (inMachine (getD rc (j - 1) (pos 0)))) i (j - 1) (k - 1)
-    new e = put (goes-in (v .merging) more (stand ∙ e)) (word-of next-is next-valid) (toZ-ofZ w64 _ next-fits ∙ coefficient-of next-is)
+      pub next-valid : Valid x
+      next-valid = subst Valid (sym is) (product-valid w (getD tp (j - 1) 0) (v .can .valid) factor-valid factor-low)
 
-    -- in the other two cases there is a last term
-    module _ (some : 0 < i) where
-      last-inside : i - 1 < length (take n ws₀)
-      last-inside = omega (arith, length-take-le n ws₀ (enough (v .operands)), v .inside)
+      next-word : x ≡ wordFor (getD (rowOf c w tp tc) (j - 1) none .pattern)
+      next-word = is ∙ sym (ap (λ (t : Term). wordFor (t .pattern)) next-is ∙ word-for next next-long)
 
-      last-coefficient : getD (take n cs₀) (i - 1) (pos 0) ≡ getD cs (i - 1) (pos 0)
-      last-coefficient =
-          getD-take n cs₀ (i - 1) (pos 0) (omega (arith, v .inside)) ∙ sym (kept (v .coefficients) (i - 1) (pos 0) (omega (arith, v .room)))
+      -- the patterns that the code compares are those of the terms
+      abbrev last : Pattern
+      last = exponents (getD ws (i - 1) 0)
 
-      last-word : getD (take n ws₀) (i - 1) 0 ≡ getD ws (i - 1) 0
-      last-word = getD-take n ws₀ (i - 1) 0 (omega (arith, v .inside)) ∙ sym (kept (v .words) (i - 1) 0 (omega (arith, v .room)))
+      stand : lastStands i (getD (firstTerms n ws₀ cs₀) (i - 1) none .pattern) (getD (rowOf c w tp tc) (j - 1) none .pattern) ≡ lastStands i last (exponents x)
+      stand =
+          last-pattern ws₀ n (v .can .running) (enough (v .can)) i (v .inside) ws (λ some. kept (v .words) (i - 1) 0 (omega (arith, v .room))) _
+          ∙ ap (lastStands i last) (ap (λ (t : Term). t .pattern) next-is ∙ sym spelled)
 
-      last-is : getD (firstTerms n ws₀ cs₀) (i - 1) none ≡ term (getD cs (i - 1) (pos 0)) last
-      last-is = term-at (v .operands .held) (i - 1) last-inside none ∙ ap₂ (λ (z : ℤ) (w : ℕ). term z (exponents w)) last-coefficient last-word
+      -- a term more is merged, and written in both areas
+      put : {t : Term} {i' j' : ℕ} → Merging (firstTerms n ws₀ cs₀) (rowOf c w tp tc) i' j' (t ∷ v .merged) → i' + j' < i + j → {y : ℕ} → y ≡ wordFor (t .pattern) → {z : ℤ} → z ≡ t .coefficient
+          → Moving ws₀ cs₀ n w c tp tc (set ws (k - 1) y) (set cs (k - 1) z) i' j' (k - 1)
+      put m fewer word-is coefficient-is =
+          let some : 0 < k = omega (arith, v .room) in
+          moving (v .can) m (backwards.again (v .words) some _ word-is) (backwards.again (v .coefficients) some _ coefficient-is) (omega (arith, v .room))
 
-      last-valid : Valid (getD ws (i - 1) 0)
-      last-valid = subst Valid last-word (each-valid (v .operands .held) (i - 1) last-inside)
+      pub new : lastStands i (exponents (getD ws (i - 1) 0)) (exponents x) ≡ Ordering·lt → {z : ℤ} → z ≡ c *ℤ getD tc (j - 1) (pos 0)
+          → Moving ws₀ cs₀ n w c tp tc (set ws (k - 1) x) (set cs (k - 1) z) i (j - 1) (k - 1)
+      new e z-is = put (goes-in (v .merging) more (stand ∙ e)) (omega arith) next-word (z-is ∙ coefficient-of next-is)
 
-      last-size : natAbs (getD cs (i - 1) (pos 0)) ≤ weight (firstTerms n ws₀ cs₀)
-      last-size = subst (λ (z : ℤ). natAbs z ≤ weight (firstTerms n ws₀ cs₀)) last-coefficient (size-at (v .operands .held) (i - 1) last-inside)
+      -- in the other two cases there is a last term
+      module _ (some : 0 < i) where
+        last-inside : i - 1 < length (take n ws₀)
+        last-inside = omega (arith, length-take-le n ws₀ (enough (v .can)), v .inside)
 
-      last-fits : SFits w64 (getD cs (i - 1) (pos 0))
-      last-fits = fits-abs _ (omega (arith, last-size, v .operands .light))
+        last-coefficient : getD (take n cs₀) (i - 1) (pos 0) ≡ getD cs (i - 1) (pos 0)
+        last-coefficient =
+            getD-take n cs₀ (i - 1) (pos 0) (omega (arith, v .inside)) ∙ sym (kept (v .coefficients) (i - 1) (pos 0) (omega (arith, v .room)))
 
-      -- the two coefficients together, as the machine adds them
-      both : inMachine (getD rc (j - 1) (pos 0)) +ℤ inMachine (getD cs (i - 1) (pos 0)) ≡ getD rc (j - 1) (pos 0) +ℤ getD cs (i - 1) (pos 0)
-      both = ap₂ _+ℤ_ (toZ-ofZ w64 _ next-fits) (toZ-ofZ w64 _ last-fits)
+        last-word : getD (take n ws₀) (i - 1) 0 ≡ getD ws (i - 1) 0
+        last-word = getD-take n ws₀ (i - 1) 0 (omega (arith, v .inside)) ∙ sym (kept (v .words) (i - 1) 0 (omega (arith, v .room)))
 
-      pub sum-fits : SFits w64 (inMachine (getD rc (j - 1) (pos 0)) +ℤ inMachine (getD cs (i - 1) (pos 0)))
-      sum-fits =
-          let c = getD rc (j - 1) (pos 0) in
-          let d = getD cs (i - 1) (pos 0) in
-          subst (SFits w64) (sym both) (fits-abs (c +ℤ d) (omega (arith, abs-add c d, next-size, last-size, v .operands .light)))
+        last-is : getD (firstTerms n ws₀ cs₀) (i - 1) none ≡ term (getD cs (i - 1) (pos 0)) last
+        last-is = term-at (v .can .running) (i - 1) last-inside none ∙ ap₂ (λ (z : ℤ) (y : ℕ). term z (exponents y)) last-coefficient last-word
 
-      pub known : lastStands i last next ≡ Ordering·eq
-          → Moving ws₀ cs₀ n rp rc together (set ws (k - 1) (getD rp (j - 1) 0))
-          (set cs (k - 1) (inMachine (inMachine (getD rc (j - 1) (pos 0)) +ℤ inMachine (getD cs (i - 1) (pos 0))))) (i - 1) (j - 1) (k - 1)
-      known e =
-          put (adds-up (v .merging) more some (there-is i _ _ (stand ∙ e) (λ h. h) .1)) (word-of next-is next-valid)
-          (toZ-ofZ w64 _ sum-fits ∙ both ∙ ap₂ _+ℤ_ (coefficient-of next-is) (coefficient-of last-is))
+        last-valid : Valid (getD ws (i - 1) 0)
+        last-valid = subst Valid last-word (each-valid (v .can .running) (i - 1) last-inside)
 
-      pub passed : lastStands i last next ≡ Ordering·gt
-          → Moving ws₀ cs₀ n rp rc together (set ws (k - 1) (getD ws (i - 1) 0)) (set cs (k - 1) (inMachine (getD cs (i - 1) (pos 0)))) (i - 1) j (k - 1)
-      passed e =
-          put (moves (v .merging) more some (there-is i _ _ (stand ∙ e) (λ h. h) .1)) (word-of last-is last-valid) (toZ-ofZ w64 _ last-fits ∙ coefficient-of last-is)
+        last-size : natAbs (getD cs (i - 1) (pos 0)) ≤ weight (firstTerms n ws₀ cs₀)
+        last-size = subst (λ (z : ℤ). natAbs z ≤ weight (firstTerms n ws₀ cs₀)) last-coefficient (size-at (v .can .running) (i - 1) last-inside)
+
+        pub sum-fits : SFits w64 (c *ℤ getD tc (j - 1) (pos 0) +ℤ getD cs (i - 1) (pos 0))
+        sum-fits =
+            let d = getD cs (i - 1) (pos 0) in
+            fits-abs (value +ℤ d) (omega (arith, abs-add value d, product-size (v .can .factor) (j - 1) next-inside c, last-size, v .can .light))
+
+        pub known : lastStands i (exponents (getD ws (i - 1) 0)) (exponents x) ≡ Ordering·eq → {z : ℤ} → z ≡ c *ℤ getD tc (j - 1) (pos 0) +ℤ getD cs (i - 1) (pos 0)
+            → Moving ws₀ cs₀ n w c tp tc (set ws (k - 1) x) (set cs (k - 1) z) (i - 1) (j - 1) (k - 1)
+        known e z-is =
+            put (adds-up (v .merging) more some (there-is i _ _ (stand ∙ e) (λ h. h) .1)) (omega arith) next-word
+            (z-is ∙ ap₂ _+ℤ_ (coefficient-of next-is) (coefficient-of last-is))
+
+        pub passed : lastStands i (exponents (getD ws (i - 1) 0)) (exponents x) ≡ Ordering·gt → {z : ℤ} → z ≡ getD cs (i - 1) (pos 0)
+            → Moving ws₀ cs₀ n w c tp tc (set ws (k - 1) (getD ws (i - 1) 0)) (set cs (k - 1) z) (i - 1) j (k - 1)
+        passed e z-is =
+            put (moves (v .merging) more some (there-is i _ _ (stand ∙ e) (λ h. h) .1)) (omega arith)
+            (sym (ap (λ (t : Term). wordFor (t .pattern)) last-is ∙ word-for last (exponents-length (getD ws (i - 1) 0)) ∙ last-valid .is)) (z-is ∙ coefficient-of last-is)

@@ -10,8 +10,7 @@ use lib.ListN.{length, getD, take}
 use lib.Seq.{length-take-le, getD-take}
 use Rattle.algebra.specs.Pattern.{Pattern, order}
 use Rattle.algebra.specs.Sum.{isBefore}
-use Rattle.algebra.specs.Word.{Valid}
-use Rattle.sums.specs.Held.{EachValid}
+use Rattle.algebra.specs.Word.{Valid, EachValid}
 
 -- where there is none, it counts as before
 abbrev pub lastStands : ℕ → Pattern → Pattern → Ordering

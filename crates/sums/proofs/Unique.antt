@@ -13,8 +13,7 @@ use Rattle.sums.proofs.variable.Reads as variable
 use Rattle.sums.proofs.sum.Reads as sum
 use Rattle.sums.proofs.product.Reads as product
 use Rattle.sums.proofs.power.Reads as power
-use Rattle.sums.proofs.rows.make_row.Reads as make-row
-use Rattle.sums.proofs.rows.add_row.Reads as add-row
+use Rattle.sums.proofs.rows.add_product.Reads as add-product
 use Rattle.sums.proofs.rows.finish.Reads as finish
 
 -- ---- Different answers tell different things.
@@ -56,11 +55,8 @@ product-one k a r r' e e' h h' = told-one r r' (same h h')
 pub power-one : OneLent power.Learnt {L = Areas} (λ k e. (now (e .1 .1 .1 .0), now (e .1 .1 .1 .1 .0)))
 power-one k a r r' e e' h h' = told-one r r' (same h h')
 
-pub make-row-one : OneLent make-row.Learnt {L = Areas} (λ k e. (now (e .1 .1 .1 .1 .0), now (e .1 .1 .1 .1 .1 .0)))
-make-row-one k a r r' e e' h h' = (refl, rw (same (h .0) (h' .0), same (h .1) (h' .1)))
-
-pub add-row-one : OneLent add-row.Learnt {L = Areas} (λ k e. (now (e .0), now (e .1 .0)))
-add-row-one k a r r' e e' h h' = told-one r r' (same h h')
+pub add-product-one : OneLent add-product.Learnt {L = Areas} (λ k e. (now (e .0), now (e .1 .0)))
+add-product-one k a r r' e e' h h' = told-one r r' (same h h')
 
 pub finish-one : OneLent finish.Learnt {L = Areas} (λ k e. (now (e .1 .1 .0), now (e .1 .1 .1 .0)))
 finish-one k a r r' e e' h h' = told-one r r' (same h h')

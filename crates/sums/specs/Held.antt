@@ -1,19 +1,15 @@
 -- Two slices that hold terms in order, of a sum or of one that is being formed.
 use mathlib.Core.Path.{_≡_}
 use mathlib.Core.List.{List}
-use Prim.Native.Nat.{ℕ, _≤_, _<_}
+use Prim.Native.Nat.{ℕ, _≤_}
 use lib.Dec.{T}
 use lib.IntN.{ℤ}
-use lib.ListN.{length, getD}
+use lib.ListN.{length}
 use Rattle.algebra.specs.Limits.{variables, largestDegree, mostTerms}
 use Rattle.algebra.specs.Sum.{inOrder, degreeOf}
 use Rattle.algebra.specs.Accepted.{Accepted}
 use Rattle.algebra.specs.Held.{wordsOf, coefficientsOf}
-use Rattle.algebra.specs.Word.{terms, Valid}
-
--- each word is that of a pattern within the limits
-abbrev pub EachValid : List ℕ → Type 0
-EachValid ws = (k : ℕ) → k < length ws → Valid (getD ws k 0)
+use Rattle.algebra.specs.Word.{terms}
 
 -- they are the words and the coefficients of the terms that they spell; the terms stand in order, of degree 60 at most, and at most 128 of them. A
 -- coefficient may be 0, and nothing is said of the weight

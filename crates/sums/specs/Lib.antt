@@ -1,4 +1,5 @@
 pub mod Held
 pub mod Formed
 pub mod Asked
+pub mod Rows
 pub mod Part

@@ -4,12 +4,14 @@ use algebra::MOST_TERMS;
 use algebra::Pattern;
 use answers::areas;
 ghost use mathlib.Core.Path.{_≡_};
-ghost use Prim.Native.Nat.{_<_};
+ghost use Prim.Native.Nat.{_+_, _≤_, _<_};
+ghost use lib.ListN.{length};
 ghost use Rattle.algebra.specs.Limits.{variables};
 ghost use Rattle.algebra.specs.Arithmetic.{integer, variable};
 ghost use Rattle.algebra.specs.Word.{terms};
 ghost use Rattle.sums.specs.Asked.{Room, Addends, Factors, Base};
 ghost use Rattle.sums.specs.Formed.{formedOf, Formed.formed, sumOf, productOf, powerOf, formedInto};
+ghost use Rattle.sums.specs.Rows.{RoomFor};
 
 pub mod rows;
 
@@ -20,6 +22,12 @@ pub enum Formed {
     // A spread is above 128.
     Over,
 }
+
+// A running sum of 128 terms and a row of 128 more.
+pub const MOST_PLACES: usize = MOST_TERMS + MOST_TERMS;
+
+// Where a few terms are formed.
+const FEW_PLACES: usize = 16;
 
 // ---- Sums of one term at most.
 
@@ -50,7 +58,34 @@ pub fn variable(v: u64, patterns: &mut [u64], coefficients: &mut [i64]) -> Forme
 
 // ---- Sums formed of others. The running sum stands in arrays of its own: the areas are written when nothing can be refused any more.
 
-// The sum of two sums: the second is the running sum, the first the only row.
+// The sum of two sums, formed in two arrays of the caller's own: the second is the running sum, the first the only row.
+fn sum_in(
+    sp: &[u64],
+    sc: &[i64],
+    tp: &[u64],
+    tc: &[i64],
+    gp: &mut [u64],
+    gc: &mut [i64],
+    patterns: &mut [u64],
+    coefficients: &mut [i64],
+) -> Formed
+    requires { ⌜ Addends (now sp) (now sc) (now tp) (now tc) ⌝ }
+    requires { ⌜ length (now tp) + length (now sp) ≤ length (now gp) ⌝ }
+    requires { ⌜ length (now tp) + length (now sp) ≤ length (now gc) ⌝ }
+    requires { ⌜ Room (now patterns) (now coefficients) ⌝ }
+    ensures { λ r. ⌜ (formedOf r, now (patterns .exit), now (coefficients .exit)) ≡ formedInto (sumOf (terms (now (sp .entry)) (now (sc .entry))) (terms (now (tp .entry)) (now (tc .entry)))) (now (patterns .entry)) (now (coefficients .entry)) ⌝ }
+{
+    let n = tp.len();
+    areas::copy_words(gp, tp, n);
+    areas::copy_coefficients(gc, tc, n);
+    let all = rows::add_row(gp, gc, n, Pattern::empty(), 1, sp, sc);
+    if all > MOST_TERMS {
+        return Formed::Over;
+    }
+    rows::finish(&gp[0..all], &gc[0..all], patterns, coefficients)
+}
+
+// Small sums are formed in small arrays: to clear large ones would take longer than to add.
 pub fn sum(
     sp: &[u64],
     sc: &[i64],
@@ -63,24 +98,41 @@ pub fn sum(
     requires { ⌜ Room (now patterns) (now coefficients) ⌝ }
     ensures { λ r. ⌜ (formedOf r, now (patterns .exit), now (coefficients .exit)) ≡ formedInto (sumOf (terms (now (sp .entry)) (now (sc .entry))) (terms (now (tp .entry)) (now (tc .entry)))) (now (patterns .entry)) (now (coefficients .entry)) ⌝ }
 {
-    let mut own_patterns = [0u64; MOST_TERMS];
-    let mut own_coefficients = [0i64; MOST_TERMS];
-    let n = tp.len();
-    areas::copy_words(&mut own_patterns, tp, n);
-    areas::copy_coefficients(&mut own_coefficients, tc, n);
-    let formed = rows::add_row(&mut own_patterns, &mut own_coefficients, n, sp, sc);
+    if sp.len() + tp.len() <= FEW_PLACES {
+        let mut gp = [0u64; FEW_PLACES];
+        let mut gc = [0i64; FEW_PLACES];
+        return sum_in(sp, sc, tp, tc, &mut gp, &mut gc, patterns, coefficients);
+    }
+    let mut gp = [0u64; MOST_PLACES];
+    let mut gc = [0i64; MOST_PLACES];
+    sum_in(sp, sc, tp, tc, &mut gp, &mut gc, patterns, coefficients)
+}
+
+// The product, formed in two arrays of the caller's own.
+fn multiply_in(
+    sp: &[u64],
+    sc: &[i64],
+    tp: &[u64],
+    tc: &[i64],
+    gp: &mut [u64],
+    gc: &mut [i64],
+    patterns: &mut [u64],
+    coefficients: &mut [i64],
+) -> Formed
+    requires { ⌜ Factors (now sp) (now sc) (now tp) (now tc) ⌝ }
+    requires { ⌜ RoomFor 0 (length (now sp)) (length (now tp)) (length (now gp)) ⌝ }
+    requires { ⌜ RoomFor 0 (length (now sp)) (length (now tp)) (length (now gc)) ⌝ }
+    requires { ⌜ Room (now patterns) (now coefficients) ⌝ }
+    ensures { λ r. ⌜ (formedOf r, now (patterns .exit), now (coefficients .exit)) ≡ formedInto (productOf (terms (now (sp .entry)) (now (sc .entry))) (terms (now (tp .entry)) (now (tc .entry)))) (now (patterns .entry)) (now (coefficients .entry)) ⌝ }
+{
+    let formed = rows::add_pairs(gp, gc, 0, sp, sc, tp, tc);
     let Formed::Terms(all) = formed else {
         return formed;
     };
-    rows::finish(
-        &own_patterns[0..all],
-        &own_coefficients[0..all],
-        patterns,
-        coefficients,
-    )
+    rows::finish(&gp[0..all], &gc[0..all], patterns, coefficients)
 }
 
-// A row for each term of the first sum, the last of them first: each row is the term times the second sum.
+// The product, with a row for each term of the first operand; in small arrays if it is small.
 fn multiply(
     sp: &[u64],
     sc: &[i64],
@@ -93,35 +145,14 @@ fn multiply(
     requires { ⌜ Room (now patterns) (now coefficients) ⌝ }
     ensures { λ r. ⌜ (formedOf r, now (patterns .exit), now (coefficients .exit)) ≡ formedInto (productOf (terms (now (sp .entry)) (now (sc .entry))) (terms (now (tp .entry)) (now (tc .entry)))) (now (patterns .entry)) (now (coefficients .entry)) ⌝ }
 {
-    let mut own_patterns = [0u64; MOST_TERMS];
-    let mut own_coefficients = [0i64; MOST_TERMS];
-    let mut rp = [0u64; MOST_TERMS];
-    let mut rc = [0i64; MOST_TERMS];
-    let m = tp.len();
-    let mut all = 0;
-    let mut left = sp.len();
-    while left > 0 {
-        left -= 1;
-        let c = sc[left];
-        rows::make_row(Pattern(sp[left]), c, tp, tc, &mut rp, &mut rc);
-        let formed = rows::add_row(
-            &mut own_patterns,
-            &mut own_coefficients,
-            all,
-            &rp[0..m],
-            &rc[0..m],
-        );
-        let Formed::Terms(together) = formed else {
-            return formed;
-        };
-        all = together;
+    if sp.len() * tp.len() <= FEW_PLACES {
+        let mut gp = [0u64; FEW_PLACES];
+        let mut gc = [0i64; FEW_PLACES];
+        return multiply_in(sp, sc, tp, tc, &mut gp, &mut gc, patterns, coefficients);
     }
-    rows::finish(
-        &own_patterns[0..all],
-        &own_coefficients[0..all],
-        patterns,
-        coefficients,
-    )
+    let mut gp = [0u64; MOST_PLACES];
+    let mut gc = [0i64; MOST_PLACES];
+    multiply_in(sp, sc, tp, tc, &mut gp, &mut gc, patterns, coefficients)
 }
 
 // The product, with a row for each term of the shorter operand. It is also one step of a power.

@@ -4,47 +4,26 @@ use crate::Formed;
 use algebra::MOST_TERMS;
 use algebra::Pattern;
 use algebra::Standing;
+use answers::areas;
 ghost use mathlib.Core.Path.{_≡_};
 ghost use mathlib.Core.Bool.{cond};
-ghost use mathlib.Core.List.{List, _++_};
 ghost use Prim.Native.Nat.{_+_, _*_, _-_, _≤_, Ordering·lt};
 ghost use lib.Dec.{eqb};
-ghost use lib.IntN.{ℤ, natAbs};
+ghost use lib.IntN.{pos, natAbs};
 ghost use lib.ListN.{length, getD, take};
-ghost use Rattle.algebra.specs.Limits.{largestDegree, mostTerms, largestWeight};
+ghost use Rattle.algebra.specs.Limits.{largestDegree, largestWeight};
 ghost use Rattle.algebra.specs.Pattern.{degree, order};
 ghost use Rattle.algebra.specs.Sum.{term, degreeOf, weight};
-ghost use Rattle.algebra.specs.Collect.{gather, dropZeros, spread};
-ghost use Rattle.algebra.specs.Arithmetic.{row};
+ghost use Rattle.algebra.specs.Collect.{dropZeros};
+ghost use Rattle.algebra.specs.Arithmetic.{row, pairs};
 ghost use Rattle.algebra.specs.Standing.{standing};
-ghost use Rattle.algebra.specs.Word.{exponents, terms, Valid};
+ghost use Rattle.algebra.specs.Word.{exponents, terms, Valid, EachValid};
 ghost use Rattle.algebra.specs.Held.{wordsOf, coefficientsOf, firstTerms};
-ghost use Rattle.answers.specs.Areas.{written};
-ghost use Rattle.sums.specs.Held.{EachValid, Held};
+ghost use Rattle.answers.specs.Areas.{written, cleared};
+ghost use Rattle.sums.specs.Held.{Held};
 ghost use Rattle.sums.specs.Asked.{Room};
 ghost use Rattle.sums.specs.Formed.{formedOf, Formed.formed, withRow, formedInto};
-
-// c times the pattern times each term.
-pub fn make_row(pattern: Pattern, c: i64, sp: &[u64], sc: &[i64], rp: &mut [u64], rc: &mut [i64])
-    requires { ⌜ Valid (pattern .0) ⌝ }
-    requires { ⌜ Held (now sp) (now sc) ⌝ }
-    requires { ⌜ degree (exponents (pattern .0)) + degreeOf (terms (now sp) (now sc)) ≤ largestDegree ⌝ }
-    requires { ⌜ natAbs c * weight (terms (now sp) (now sc)) ≤ largestWeight ⌝ }
-    requires { ⌜ Room (now rp) (now rc) ⌝ }
-    ensures { λ r. ⌜ now (rp .exit) ≡ written (wordsOf (row (term c (exponents (pattern .0))) (terms (now (sp .entry)) (now (sc .entry))))) (now (rp .entry)) ⌝ }
-    ensures { λ r. ⌜ now (rc .exit) ≡ written (coefficientsOf (row (term c (exponents (pattern .0))) (terms (now (sp .entry)) (now (sc .entry))))) (now (rc .entry)) ⌝ }
-{
-    let n = sp.len();
-    let mut k = 0;
-    while k < n {
-        let product = pattern.product(Pattern(sp[k]));
-        let d = sc[k];
-        let e = c * d;
-        rp[k] = product.0;
-        rc[k] = e;
-        k += 1;
-    }
-}
+ghost use Rattle.sums.specs.Rows.{CanMerge, joined, Gapped, closed, Stands, CanAdd, Added};
 
 // How the last of the first i patterns stands to another one. Where there is none left, the other one is next: that counts as before.
 fn last_stands(patterns: &[u64], i: usize, pattern: Pattern) -> Standing
@@ -59,109 +38,156 @@ fn last_stands(patterns: &[u64], i: usize, pattern: Pattern) -> Standing
     Pattern(patterns[i - 1]).compare(pattern)
 }
 
-// How many different patterns a running sum and a row have together: those of the running sum, and those of the row that are new.
-// (The coefficients do not matter: it holds for any.)
-fn count_together(patterns: &[u64], n: usize, rp: &[u64]) -> usize
-    requires { ⌜ n ≤ length (now patterns) ⌝ }
-    requires { ⌜ n ≤ mostTerms ⌝ }
-    requires { ⌜ length (now rp) ≤ mostTerms ⌝ }
-    requires { ⌜ EachValid (take n (now patterns)) ⌝ }
-    requires { ⌜ EachValid (now rp) ⌝ }
-    ensures { λ r. ⌜ ((cs ds : List ℤ) → Held (take n (now (patterns .entry))) cs → Held (now (rp .entry)) ds → r ≡ spread (terms (now (rp .entry)) ds ++ terms (take n (now (patterns .entry))) cs)) ⌝ }
-{
-    let mut i = n;
-    let mut j = rp.len();
-    let mut together = n;
-    while j > 0 {
-        let pattern = Pattern(rp[j - 1]);
-        match last_stands(patterns, i, pattern) {
-            Standing::Before => {
-                together += 1;
-                j -= 1;
-            }
-            Standing::Same => {
-                i -= 1;
-                j -= 1;
-            }
-            Standing::After => {
-                i -= 1;
-            }
-        }
-    }
-    together
+// What a merge leaves: a gap between the terms that stayed where they were and those that were moved or put in.
+struct Gap {
+    from: usize,
+    to: usize,
 }
 
-// Merges a row into a running sum of n terms, from the back, so that no term is overwritten before it is moved. `together` is their
-// number of different patterns.
+// Merges a row, c times the pattern times each term of t, into a running sum of n terms: from the back, into as many places as the two have terms, so that no term is overwritten before it
+// is moved. A pattern that both have leaves one place over.
 fn merge(
     patterns: &mut [u64],
     coefficients: &mut [i64],
     n: usize,
-    rp: &[u64],
-    rc: &[i64],
-    together: usize,
-)
-    requires { ⌜ Room (now patterns) (now coefficients) ⌝ }
-    requires { ⌜ n ≤ mostTerms ⌝ }
-    requires { ⌜ Held (take n (now patterns)) (take n (now coefficients)) ⌝ }
-    requires { ⌜ Held (now rp) (now rc) ⌝ }
-    requires { ⌜ weight (terms (now rp) (now rc)) + weight (firstTerms n (now patterns) (now coefficients)) ≤ largestWeight ⌝ }
-    requires { ⌜ together ≡ spread (terms (now rp) (now rc) ++ firstTerms n (now patterns) (now coefficients)) ⌝ }
-    requires { ⌜ together ≤ mostTerms ⌝ }
-    ensures { λ r. ⌜ now (patterns .exit) ≡ written (wordsOf (gather (terms (now (rp .entry)) (now (rc .entry)) ++ firstTerms n (now (patterns .entry)) (now (coefficients .entry))))) (now (patterns .entry)) ⌝ }
-    ensures { λ r. ⌜ now (coefficients .exit) ≡ written (coefficientsOf (gather (terms (now (rp .entry)) (now (rc .entry)) ++ firstTerms n (now (patterns .entry)) (now (coefficients .entry))))) (now (coefficients .entry)) ⌝ }
+    pattern: Pattern,
+    c: i64,
+    tp: &[u64],
+    tc: &[i64],
+) -> Gap
+    requires { ⌜ CanMerge (now patterns) (now coefficients) n (pattern .0) c (now tp) (now tc) ⌝ }
+    ensures { λ r. ⌜ Gapped (joined c (pattern .0) (now (tp .entry)) (now (tc .entry)) n (now (patterns .entry)) (now (coefficients .entry))) (now (patterns .exit)) (now (coefficients .exit)) (r .from) (r .to) (n + length (now (tp .entry))) ⌝ }
 {
     let mut i = n;
-    let mut j = rp.len();
-    let mut k = together;
+    let mut j = tp.len();
+    let mut k = n + j;
     while j > 0 {
         k -= 1;
-        let pattern = Pattern(rp[j - 1]);
-        let c = rc[j - 1];
-        match last_stands(patterns, i, pattern) {
+        let next = pattern.product(Pattern(tp[j - 1]));
+        match last_stands(patterns, i, next) {
             Standing::Before => {
-                patterns[k] = pattern.0;
-                coefficients[k] = c;
                 j -= 1;
+                let d = tc[j];
+                patterns[k] = next.0;
+                coefficients[k] = c * d;
             }
             Standing::Same => {
                 i -= 1;
                 j -= 1;
-                let d = coefficients[i];
-                patterns[k] = pattern.0;
-                coefficients[k] = c + d;
+                let d = tc[j];
+                let e = coefficients[i];
+                patterns[k] = next.0;
+                coefficients[k] = c * d + e;
             }
             Standing::After => {
                 i -= 1;
-                let d = coefficients[i];
+                let e = coefficients[i];
                 patterns[k] = patterns[i];
-                coefficients[k] = d;
+                coefficients[k] = e;
             }
         }
     }
+    Gap { from: i, to: k }
 }
 
-// A row is merged only if its patterns and those of the running sum, which has n terms, are not too many.
-pub fn add_row(
+// Closes a gap: what stands after it, up to place `end`, moves down. It answers the number of terms.
+fn close(
+    patterns: &mut [u64],
+    coefficients: &mut [i64],
+    from: usize,
+    to: usize,
+    end: usize,
+) -> usize
+    requires { ⌜ from ≤ to ⌝ }
+    requires { ⌜ to ≤ end ⌝ }
+    requires { ⌜ end ≤ length (now patterns) ⌝ }
+    requires { ⌜ end ≤ length (now coefficients) ⌝ }
+    ensures { λ r. ⌜ r ≡ from + (end - to) ⌝ }
+    ensures { λ r. ⌜ take r (now (patterns .exit)) ≡ closed from to end (now (patterns .entry)) ⌝ }
+    ensures { λ r. ⌜ take r (now (coefficients .exit)) ≡ closed from to end (now (coefficients .entry)) ⌝ }
+{
+    let mut i = from;
+    let mut k = to;
+    while k < end {
+        let c = coefficients[k];
+        patterns[i] = patterns[k];
+        coefficients[i] = c;
+        i += 1;
+        k += 1;
+    }
+    i
+}
+
+// Adds a row to a running sum of n terms, and answers how many terms they have together. What stands after them is not said: the areas are the callers' own.
+pub(crate) fn add_row(
     patterns: &mut [u64],
     coefficients: &mut [i64],
     n: usize,
-    rp: &[u64],
-    rc: &[i64],
-) -> Formed
-    requires { ⌜ Room (now patterns) (now coefficients) ⌝ }
-    requires { ⌜ n ≤ mostTerms ⌝ }
-    requires { ⌜ Held (take n (now patterns)) (take n (now coefficients)) ⌝ }
-    requires { ⌜ Held (now rp) (now rc) ⌝ }
-    requires { ⌜ weight (terms (now rp) (now rc)) + weight (firstTerms n (now patterns) (now coefficients)) ≤ largestWeight ⌝ }
-    ensures { λ r. ⌜ (formedOf r, now (patterns .exit), now (coefficients .exit)) ≡ formedInto (withRow (terms (now (rp .entry)) (now (rc .entry))) (firstTerms n (now (patterns .entry)) (now (coefficients .entry)))) (now (patterns .entry)) (now (coefficients .entry)) ⌝ }
+    pattern: Pattern,
+    c: i64,
+    tp: &[u64],
+    tc: &[i64],
+) -> usize
+    requires { ⌜ CanMerge (now patterns) (now coefficients) n (pattern .0) c (now tp) (now tc) ⌝ }
+    ensures { λ r. ⌜ Stands (joined c (pattern .0) (now (tp .entry)) (now (tc .entry)) n (now (patterns .entry)) (now (coefficients .entry))) r (now (patterns .exit)) (now (coefficients .exit)) ⌝ }
 {
-    let together = count_together(patterns, n, rp);
-    if together > MOST_TERMS {
-        return Formed::Over;
+    let end = n + tp.len();
+    let gap = merge(patterns, coefficients, n, pattern, c, tp, tc);
+    close(patterns, coefficients, gap.from, gap.to, end)
+}
+
+// Adds all pairs of two sums to a running sum of n terms: a row for each term of s, the last of them first. It ends where the patterns are too many.
+pub(crate) fn add_pairs(
+    patterns: &mut [u64],
+    coefficients: &mut [i64],
+    n: usize,
+    sp: &[u64],
+    sc: &[i64],
+    tp: &[u64],
+    tc: &[i64],
+) -> Formed
+    requires { ⌜ CanAdd (now patterns) (now coefficients) n (now sp) (now sc) (now tp) (now tc) ⌝ }
+    ensures { λ r. ⌜ Added (withRow (pairs (terms (now (sp .entry)) (now (sc .entry))) (terms (now (tp .entry)) (now (tc .entry)))) (firstTerms n (now (patterns .entry)) (now (coefficients .entry)))) (formedOf r) (now (patterns .exit)) (now (coefficients .exit)) ⌝ }
+{
+    let mut all = n;
+    let mut left = sp.len();
+    while left > 0 {
+        left -= 1;
+        let c = sc[left];
+        all = add_row(patterns, coefficients, all, Pattern(sp[left]), c, tp, tc);
+        if all > MOST_TERMS {
+            return Formed::Over;
+        }
     }
-    merge(patterns, coefficients, n, rp, rc, together);
-    Formed::Terms(together)
+    Formed::Terms(all)
+}
+
+// The same for other crates: all places after the sum are cleared, and without a sum all places.
+pub fn add_product(
+    patterns: &mut [u64],
+    coefficients: &mut [i64],
+    n: usize,
+    sp: &[u64],
+    sc: &[i64],
+    tp: &[u64],
+    tc: &[i64],
+) -> Formed
+    requires { ⌜ CanAdd (now patterns) (now coefficients) n (now sp) (now sc) (now tp) (now tc) ⌝ }
+    ensures { λ r. ⌜ (formedOf r, now (patterns .exit), now (coefficients .exit)) ≡ formedInto (withRow (pairs (terms (now (sp .entry)) (now (sc .entry))) (terms (now (tp .entry)) (now (tc .entry)))) (firstTerms n (now (patterns .entry)) (now (coefficients .entry)))) (cleared 0 (length (now (patterns .entry))) (now (patterns .entry))) (cleared (pos 0) (length (now (coefficients .entry))) (now (coefficients .entry))) ⌝ }
+{
+    let formed = add_pairs(patterns, coefficients, n, sp, sc, tp, tc);
+    let all = match formed {
+        Formed::Terms(all) => all,
+        Formed::Over => 0,
+    };
+    let words_end = patterns.len();
+    let coefficients_end = coefficients.len();
+    areas::clear_words(&mut patterns[all..words_end], words_end - all);
+    areas::clear_coefficients(
+        &mut coefficients[all..coefficients_end],
+        coefficients_end - all,
+    );
+    formed
 }
 
 // The operation is complete: the terms of a running sum that have not cancelled are written to two areas.

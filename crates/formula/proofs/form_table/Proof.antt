@@ -9,7 +9,7 @@ use borrow.Author.Tests.{not-true, not-false}
 use Rattle.algebra.specs.Limits.{workPlaces}
 use Rattle.formula.specs.Table.{isShape}
 use Rattle.formula.proofs.Simplifying.{shape-says}
-use Rattle.formula.proofs.Answering.{no-shape, node-refused, Formed, formed, in-work, in-lent, has-room, all-written}
+use Rattle.formula.proofs.Answering.{no-shape, node-refused, Formed, formed, in-work, in-lent, valid, has-room, all-written}
 use Rattle.formula.proofs.form_table.Statement.{statement}
 use Rattle.formula.proofs.form_table.Tie as tie
 
@@ -100,7 +100,7 @@ write-sum-requires c κs =
     let k = c .before .before .before .before .before in
     let f = last-formed k in
     let start = k .before .before .before .before .before .before .before .before .before .before .before .before .before in
-    (in-lent f _ (words-room k), (in-lent f _ (coefficients-room k), has-room f (start .args .result .now) (start .pre .1 .1)))
+    (in-lent f _ (words-room k), (in-lent f _ (coefficients-room k), (valid f, has-room f (start .args .result .now) (start .pre .1 .1))))
 
 same-length-3 : tie.Need-same-length-3
 same-length-3 c = search needs

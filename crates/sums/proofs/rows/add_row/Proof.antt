@@ -1,54 +1,34 @@
--- `add_row` meets its contract: the patterns are counted, and the row is merged if they are not too many.
-use native.Mathlib.Omega.{arith}
+-- `add_row` meets its contract: the row is merged, and the gap that the merge leaves is closed.
 use borrow.Author.Needs.{needs}
-use Rattle.sums.proofs.Holding.{each-valid}
-use Rattle.sums.proofs.Forming.{row-over, row-formed}
+use mir.Syntax.{w64}
+use mir.ValLaws.{toZ-ofZ}
+use Rattle.sums.proofs.Closing.{gap-closed}
 use Rattle.sums.proofs.rows.add_row.Statement.{statement}
 use Rattle.sums.proofs.rows.add_row.Tie as tie
 
-count-together-requires : tie.Need-count-together-requires
-count-together-requires c κs =
-    let pre = c .before .before .before .pre in
-    let held = pre .1 .1 .0 in
-    let row-held = pre .1 .1 .1 .0 in
-    (omega (arith, pre .0 .words, pre .1 .0), (pre .1 .0, (row-held .few, (each-valid held, each-valid row-held))))
+add-end : tie.Need-add-end
+add-end c = search needs
+
+merge-requires : tie.Need-merge-requires
+merge-requires c κs = search needs
+
+close-requires : tie.Need-close-requires
+close-requires c κs = search needs
 
 same-length : tie.Need-same-length
 same-length c = search needs
 
-returns : tie.Need-returns
-returns c =
-    let pre = c .before .before .before .before .before .pre in
-    row-over _ _ _ (c .before .count-together .ensures _ _ (pre .1 .1 .0) (pre .1 .1 .1 .0)) _ _ (c .if1 .taken)
-
-merge-requires : tie.Need-merge-requires
-merge-requires c κs =
-    let pre = c .before .before .before .before .before .before .before .pre in
-    let count = c .before .before .before .count-together .ensures _ _ (pre .1 .1 .0) (pre .1 .1 .1 .0) in
-    (pre .0, (pre .1 .0, (pre .1 .1 .0, (pre .1 .1 .1 .0, (pre .1 .1 .1 .1, (count, c .before .before .if1 .left))))))
-
 same-length-2 : tie.Need-same-length-2
 same-length-2 c = search needs
 
-same-length-3 : tie.Need-same-length-3
-same-length-3 c = search needs
-
-returns-2 : tie.Need-returns-2
-returns-2 c =
-    let d = c .before .before .before in
-    let test = d .before .before .before in
-    let pre = test .before .before .before .before .before .pre in
-    let count = test .before .count-together .ensures _ _ (pre .1 .1 .0) (pre .1 .1 .1 .0) in
-    row-formed _ _ _ count _ _ (test .if1 .left) (d .merge .ensures .0) (d .merge .ensures .1)
+returns : tie.Need-returns
+returns c =
+    let closing = c .before .before .before in
+    let merging = closing .before .before .before .before .before .before in
+    let entry = merging .before .before .before .before .before in
+    let told = closing .close .ensures in
+    gap-closed (rw (toZ-ofZ w64 (entry .args .c) (entry .fits .c)) at (merging .merge .ensures)) (search needs) (told .0) (told .1 .0) (told .1 .1)
 
 pub add-row-spec : {M : Type 1} → statement M
 add-row-spec =
-    tie.close
-    (tie.spec
-    count-together-requires
-    same-length
-    returns
-    merge-requires
-    same-length-2
-    same-length-3
-    returns-2)
+    tie.close (tie.spec add-end merge-requires close-requires same-length same-length-2 returns)
