@@ -9,7 +9,6 @@ use lib.IntN.{ℤ}
 use lib.ListN.{length, getD}
 use Rattle.algebra.specs.Limits.{variables, mostTerms, workPlaces}
 use Rattle.algebra.specs.Sum.{Sum}
-use Rattle.algebra.specs.Accepted.{Accepted}
 use Rattle.algebra.specs.Held.{firstTerms}
 use Rattle.answers.specs.Refusals.{number}
 use Rattle.answers.specs.Answers.{Told, Told.done, Told.refused, told, outcome}
@@ -20,8 +19,6 @@ use Rattle.answers.proofs.Answer as answer
 use Rattle.answers.proofs.Judging.{then-good, then-fails}
 use Rattle.packed.specs.Result.{packedInto}
 use Rattle.packed.proofs.Results.{Handed, sum-given, sum-refused}
-use Rattle.sums.proofs.Holding.{accepted-holdable}
-use Rattle.sums.proofs.Fronts.{Front, front-few, front-is}
 use Rattle.change.specs.Pairs.{Pair, Listed, Listed.listed, mapped, readList, listJudged}
 use Rattle.change.specs.Substitute.{judgePairs, judgeSubstitute}
 use Rattle.change.specs.Kept.{listedOf, listFault, pairsFrom, Kept, KeepsRead, CanApply, termsTold, HoldsGood}
@@ -33,7 +30,7 @@ use Rattle.change.proofs.Reading.{Alike, Alike.both}
 use Rattle.change.proofs.TakeList.{pairs-stopped, pairs-read}
 use Rattle.change.proofs.Passing.{judge-applied}
 use Rattle.change.proofs.Meaning.{applied-accepted}
-use Rattle.change.proofs.Given.{Given, given-held}
+use Rattle.change.proofs.Given.{First, first-few, first-is, first-held, Given}
 
 -- ---- The list was read, and its n pairs are kept.
 
@@ -71,8 +68,8 @@ can-apply g l variables-room numbers-room words-room coefficients-room = record 
   words-room = words-room;
   coefficients-room = coefficients-room;
   kept = l .kept;
-  few = front-few (g .front);
-  sum = given-held g;
+  few = first-few (g .first);
+  sum = first-held (g .first);
 }
 
 -- ---- The answers.
@@ -99,7 +96,7 @@ module _ (bytes pairs area : List ℕ) where
       judgedThere = judgePairs 0 (pairsFrom 0 n vs ns ws cs) (firstTerms m fp fc)
 
       there : judgedThere ≡ judgePairs 0 (l .ps) (g .sum)
-      there = ap₂ (judgePairs 0) (l .pairs-are) (front-is (g .front))
+      there = ap₂ (judgePairs 0) (l .pairs-are) (first-is (g .first))
 
       by-pairs : {j : Judged Sum} → judgedThere ≡ j → packedInto j area ≡ packedInto (judgeSubstitute bytes pairs) area
       unfolding judgeSubstitute
@@ -120,8 +117,7 @@ module _ (bytes pairs area : List ℕ) where
       -- all pairs are applied, and what they make stands in the first places of two arrays
       pub record Made (fp' : List ℕ) (fc' : List ℤ) (k : ℕ) : Type 0 where
         pub sum : Sum
-        pub accepted : Accepted variables sum
-        pub front : Front sum fp' fc' k
+        pub first : First sum fp' fc' k
         pub judged : packedInto (good sum) area ≡ packedInto (judgeSubstitute bytes pairs) area
 
       pub made : {r : code.Answer} {k : ℕ} {fp' : List ℕ} {fc' : List ℤ} → r ≡ Done k → told r ≡ termsTold judgedThere → HoldsGood judgedThere fp' fc'
@@ -136,16 +132,16 @@ module _ (bytes pairs area : List ℕ) where
               let done-so : done k ≡ done (length t) = sym (ap told is) ∙ says ∙ ap termsTold e in
               let many : length t ≡ k = cc in
               let accepted = applied-accepted (l .all-good) (g .of-bytes .accepted) (judge-applied (sym there ∙ e)) in
+              let few : k ≤ mostTerms = omega (arith, many, accepted .few) in
               record {
                 sum = t;
-                accepted = accepted;
-                front = record {
+                first = record {
                   words-are = rw many at (holds .words-are t e);
                   coefficients-are = rw many at (holds .coefficients-are t e);
                   many = many;
-                  holdable = accepted-holdable accepted;
-                  words-room = words;
-                  coefficients-room = coefficients;
+                  accepted = accepted;
+                  words-room = omega (arith, words);
+                  coefficients-room = omega (arith, coefficients);
                 };
                 judged = by-pairs e;
               }

@@ -1,89 +1,104 @@
--- The sum that an operation is given, unpacked into two arrays of its own; and its slope, formed in two others.
-use mathlib.Core.Path.{_≡_, sym, _∙_, ap}
+-- A sum in the first places of two arrays: the one that an operation is given, its slope, which is formed in the same places, and a result that is written from there.
+use mathlib.Core.Path.{_≡_, sym, _∙_, ap, ap₂}
 use mathlib.Core.List.{List}
 use Prim.Native.Nat.{ℕ, _+_, _≤_, _<_}
 use native.Mathlib.Omega.{arith}
 use lib.IntN.{ℤ}
-use lib.ListN.{length, getD, take}
+use lib.ListN.{length, take, length-map}
 use lib.Seq.{sets}
 use Rattle.algebra.specs.Limits.{variables, mostTerms, largestWeight}
 use Rattle.algebra.specs.Sum.{Sum, weight}
 use Rattle.algebra.specs.Accepted.{Accepted}
 use Rattle.algebra.specs.Slope as algebra
+use Rattle.algebra.specs.Word.{terms, EachValid}
 use Rattle.algebra.specs.Held.{wordsOf, coefficientsOf, firstTerms}
-use Rattle.answers.specs.Answers.{Told.done, told, outcome}
+use Rattle.answers.specs.Answers.{Told.done, outcome}
 use Rattle.answers.specs.Areas.{written}
 use Rattle.answers.specs.Judge.{Judged.good}
-use Rattle.answers.specs.declared.Answer.{Answer}
-use Rattle.answers.specs.declared.Answer.the-variants.{Done}
+use Rattle.answers.proofs.Writes.{written-front}
 use Rattle.packed.specs.Packed.{packed, mostBytes}
 use Rattle.packed.specs.Result.{packedInto}
-use Rattle.packed.specs.Unpack.{unpack}
-use Rattle.packed.proofs.Results.{PackedSum, unpacks-sum, unpack-done, result-room, result-written}
+use Rattle.packed.proofs.Results.{PackedSum, Whole, result-room, result-written}
 use Rattle.sums.specs.Held.{HeldSum}
-use Rattle.sums.proofs.Holding.{accepted-holdable}
-use Rattle.sums.proofs.Fronts.{Front, front-written, front-is, front-sum}
+use Rattle.sums.proofs.Holding.{accepted-holdable, spells, each-valid, holds-sum}
 use Rattle.weights.specs.Capped.{capped}
 use Rattle.weights.proofs.Weighing.{capped-light, capped-heavy}
 use Rattle.change.proofs.Sloped.{slope-accepted}
 
--- ---- The sum stands in the first n places of two arrays.
+-- ---- An accepted sum stands in the first n places of two arrays.
+
+pub record First (s : Sum) (ws : List ℕ) (cs : List ℤ) (n : ℕ) : Type 0 where
+  pub words-are : take n ws ≡ wordsOf s
+  pub coefficients-are : take n cs ≡ coefficientsOf s
+  pub many : length s ≡ n
+  pub accepted : Accepted variables s
+  pub words-room : n ≤ length ws
+  pub coefficients-room : n ≤ length cs
+
+-- it was written there
+pub first-written : {s : Sum} (ws₀ : List ℕ) (cs₀ : List ℤ) {ws : List ℕ} {cs : List ℤ} {n : ℕ} → ws ≡ written (wordsOf s) ws₀ → cs ≡ written (coefficientsOf s) cs₀ → length s ≡ n
+    → Accepted variables s → First s ws cs n
+first-written {s} ws₀ cs₀ words coefficients many accepted =
+    let w = written-front (wordsOf s) ws₀ words (length-map s _ ∙ many) in
+    let c = written-front (coefficientsOf s) cs₀ coefficients (length-map s _ ∙ many) in
+    record { words-are = w .0; coefficients-are = c .0; many = many; accepted = accepted; words-room = w .1; coefficients-room = c .1 }
+
+module _ {s : Sum} {ws : List ℕ} {cs : List ℤ} {n : ℕ} (f : First s ws cs n) where
+  pub first-few : n ≤ mostTerms
+  first-few = omega (arith, f .many, f .accepted .few)
+
+  pub first-is : firstTerms n ws cs ≡ s
+  first-is = ap₂ terms (f .words-are) (f .coefficients-are) ∙ spells (accepted-holdable (f .accepted))
+
+  pub first-held : HeldSum (take n ws) (take n cs)
+  first-held = rw (f .words-are, f .coefficients-are) (holds-sum (f .accepted))
+
+  pub first-valid : EachValid (take n ws)
+  first-valid = each-valid (first-held .held)
+
+  -- it is written as a result
+  module _ (area : List ℕ) (room : mostBytes variables ≤ length area) where
+    pub first-room : 0 + length (packed (firstTerms n ws cs)) ≤ length area
+    first-room = result-room s n ws cs area first-is (f .accepted) room
+
+    pub first-result : {k : ℕ} {area' : List ℕ} → k ≡ 0 + length (packed (firstTerms n ws cs)) → area' ≡ sets area 0 (packed (firstTerms n ws cs))
+        → outcome (done k) area' ≡ packedInto (good s) area
+    first-result = result-written s n ws cs area first-is (f .accepted) room
+
+-- ---- The sum that is given.
 
 pub record Given (bytes sp : List ℕ) (sc : List ℤ) (n : ℕ) : Type 0 where
   pub sum : Sum
   pub of-bytes : PackedSum bytes sum
-  pub front : Front sum sp sc n
+  pub first : First sum sp sc n
 
--- the count may be one that is equal to the number that was answered: a slice from 0 to n has n - 0 places
-pub given : {bytes : List ℕ} (ws : List ℕ) (cs : List ℤ) {sp : List ℕ} {sc : List ℤ} {m n : ℕ} {r : Answer} → ((i : ℕ) → getD bytes i 0 < 256) → r ≡ Done n
-    → outcome (told r) (sp, sc) ≡ unpack bytes ws cs → mostTerms ≡ length sp → mostTerms ≡ length sc → m ≡ n → Given bytes sp sc m
-given ws cs byte is e words coefficients count =
-    let u = unpack-done ws cs byte is e in
-    record {
-      sum = u .sum;
-      of-bytes = unpacks-sum u;
-      front = front-written ws cs (u .words-are) (u .coefficients-are) (u .many ∙ sym count) (accepted-holdable (u .accepted)) words coefficients;
-    }
+pub given : {bytes : List ℕ} (ws : List ℕ) (cs : List ℤ) {sp : List ℕ} {sc : List ℤ} {n : ℕ} → Whole bytes ws cs sp sc n → Given bytes sp sc n
+given ws cs w = record {
+  sum = w .sum;
+  of-bytes = w .of-bytes;
+  first = first-written ws cs (w .words-are) (w .coefficients-are) (w .many) (w .of-bytes .accepted);
+}
 
-module _ {bytes sp : List ℕ} {sc : List ℤ} {n : ℕ} (g : Given bytes sp sc n) where
-  pub given-held : HeldSum (take n sp) (take n sc)
-  given-held = front-sum (g .front) (g .of-bytes .accepted)
+-- ---- Its slope.
 
-  -- ---- Its slope.
+module _ {bytes sp : List ℕ} {sc : List ℤ} {n : ℕ} (g : Given bytes sp sc n) (v w : ℕ) (weighed : w ≡ capped (weight (algebra.slope v (firstTerms n sp sc)))) where
+  weighs : weight (algebra.slope v (firstTerms n sp sc)) ≡ weight (algebra.slope v (g .sum))
+  weighs = ap (λ s. weight (algebra.slope v s)) (first-is (g .first))
 
-  module _ (v w : ℕ) (weighed : w ≡ capped (weight (algebra.slope v (firstTerms n sp sc)))) where
-    weighs : weight (algebra.slope v (firstTerms n sp sc)) ≡ weight (algebra.slope v (g .sum))
-    weighs = ap (λ s. weight (algebra.slope v s)) (front-is (g .front))
+  pub slope-heavy : largestWeight < w → largestWeight < weight (algebra.slope v (g .sum))
+  slope-heavy h = omega (arith, capped-heavy w _ weighed h, weighs)
 
-    pub slope-heavy : largestWeight < w → largestWeight < weight (algebra.slope v (g .sum))
-    slope-heavy h = omega (arith, capped-heavy w _ weighed h, weighs)
+  module _ (h : w ≤ largestWeight) where
+    pub slope-held-light : weight (algebra.slope v (firstTerms n sp sc)) ≤ largestWeight
+    slope-held-light = omega (arith, capped-light w _ weighed h)
 
-    module _ (h : w ≤ largestWeight) where
-      pub slope-held-light : weight (algebra.slope v (firstTerms n sp sc)) ≤ largestWeight
-      slope-held-light = omega (arith, capped-light w _ weighed h)
+    pub slope-light : weight (algebra.slope v (g .sum)) ≤ largestWeight
+    slope-light = omega (arith, slope-held-light, weighs)
 
-      pub slope-light : weight (algebra.slope v (g .sum)) ≤ largestWeight
-      slope-light = omega (arith, slope-held-light, weighs)
-
-      -- the slope stands in two arrays too
-      module _ (ws : List ℕ) (cs : List ℤ) {patterns : List ℕ} {coefficients : List ℤ} {count : ℕ}
-          (many : count ≡ length (algebra.slope v (firstTerms n sp sc)))
-          (words-are : patterns ≡ written (wordsOf (algebra.slope v (firstTerms n sp sc))) ws)
-          (coefficients-are : coefficients ≡ written (coefficientsOf (algebra.slope v (firstTerms n sp sc))) cs)
-          (words-room : mostTerms ≡ length patterns) (coefficients-room : mostTerms ≡ length coefficients) where
-        pub slope-stands : Front (algebra.slope v (g .sum)) patterns coefficients count
-        slope-stands =
-            let is = front-is (g .front) in
-            front-written ws cs (rw is at words-are) (rw is at coefficients-are) (rw is at (sym many))
-            (accepted-holdable (slope-accepted v (g .sum) (g .of-bytes .accepted) slope-light)) words-room coefficients-room
-
--- ---- A result that stands in two arrays is written.
-
-module _ {s : Sum} {ws : List ℕ} {cs : List ℤ} {count : ℕ} (f : Front s ws cs count) (accepted : Accepted variables s)
-    (area : List ℕ) (room : mostBytes variables ≤ length area) where
-  pub front-room : 0 + length (packed (firstTerms count ws cs)) ≤ length area
-  front-room = result-room s count ws cs area (front-is f) accepted room
-
-  pub front-result : {n : ℕ} {area' : List ℕ} → n ≡ 0 + length (packed (firstTerms count ws cs)) → area' ≡ sets area 0 (packed (firstTerms count ws cs))
-      → outcome (done n) area' ≡ packedInto (good s) area
-  front-result = result-written s count ws cs area (front-is f) accepted room
+    -- it takes the places of the sum
+    pub slope-stands : {patterns : List ℕ} {coefficients : List ℤ} {count : ℕ} → count ≡ length (algebra.slope v (firstTerms n sp sc))
+        → patterns ≡ written (wordsOf (algebra.slope v (firstTerms n sp sc))) sp → coefficients ≡ written (coefficientsOf (algebra.slope v (firstTerms n sp sc))) sc
+        → First (algebra.slope v (g .sum)) patterns coefficients count
+    slope-stands many words-are coefficients-are =
+        let is = first-is (g .first) in
+        first-written sp sc (rw is at words-are) (rw is at coefficients-are) (rw is at (sym many)) (slope-accepted v (g .sum) (g .of-bytes .accepted) slope-light)

@@ -4,6 +4,7 @@ pub mod Given
 pub mod Sloped
 pub mod Reading
 pub mod ListBytes
+pub mod ListPlaces
 pub mod Keeping
 pub mod TakePairs
 pub mod TakeList

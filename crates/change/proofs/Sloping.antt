@@ -7,17 +7,17 @@ use native.Mathlib.Nat.{add-zero}
 use borrow.Author.Tests.{eq-eqb, ne-eqb}
 use lib.IntN.{ℤ, pos, natAbs, _*ℤ_}
 use lib.ListN.{length, getD, take, set, length-append, length-map, length-set}
-use lib.Seq.{take-all}
+use lib.Seq.{take-all, getD-take, length-take-le}
 use mir.Syntax.{w64}
 use mir.Val.{SFits, ofZ, toZ}
 use mir.ValLaws.{toZ-ofZ, toZ-pos}
-use Rattle.algebra.specs.Limits.{variables, largestDegree, mostTerms, largestWeight}
+use Rattle.algebra.specs.Limits.{variables, largestDegree, largestWeight}
 use Rattle.algebra.specs.Pattern.{exponent, lowered}
 use Rattle.algebra.specs.Sum.{Term, term, Sum, weight}
 use Rattle.algebra.specs.Collect.{keep}
 use Rattle.algebra.specs.Slope.{slopeTerm, slope}
 use Rattle.algebra.specs.Word.{word, exponents, terms}
-use Rattle.algebra.specs.Held.{wordsOf, coefficientsOf}
+use Rattle.algebra.specs.Held.{wordFor, wordsOf, coefficientsOf, firstTerms}
 use Rattle.algebra.proofs.Numbers.Absolute.{abs-mul}
 use Rattle.algebra.proofs.Patterns.Laws.{exponent-degree}
 use Rattle.algebra.proofs.Patterns.Word.{exponents-length}
@@ -25,11 +25,11 @@ use Rattle.algebra.proofs.Sums.Held.{word-for}
 use Rattle.algebra.proofs.Sums.Results.{append-weight}
 use Rattle.algebra.proofs.Sums.SlopeTerms.{lacks, slopeTerms, slope-terms, slope-weighs}
 use Rattle.answers.specs.Areas.{written}
+use Rattle.answers.proofs.Writes.{getD-written}
 use Rattle.answers.proofs.Signed.{fits-abs}
-use Rattle.sums.specs.Asked.{Room}
 use Rattle.sums.specs.Held.{HeldSum}
 use Rattle.sums.proofs.Finishing.{keep-append}
-use Rattle.sums.proofs.Holding.{map-at, weight-at, each-valid, term-at, terms-many, terms-next}
+use Rattle.sums.proofs.Holding.{map-at, weight-at, as-many, each-valid, term-at, terms-many, terms-next}
 use Rattle.sums.proofs.Storing.{Stored, stored-none, stored-next}
 use Rattle.weights.specs.Capped.{capped}
 use Rattle.weights.proofs.Weighing.{capped-plus, capped-plus-right}
@@ -97,21 +97,21 @@ pub record Sloping (v : ℕ) (ws : List ℕ) (cs : List ℤ) (ws₀ : List ℕ) 
   pub sum : HeldSum ws cs
   pub light : weight (slope v (terms ws cs)) ≤ largestWeight
   pub inside : k ≤ length ws
-  pub words-room : mostTerms ≤ length ws₀
-  pub coefficients-room : mostTerms ≤ length cs₀
+  pub words-room : length ws ≤ length ws₀
+  pub coefficients-room : length cs ≤ length cs₀
 
-pub form-start : (v : ℕ) (ws : List ℕ) (cs : List ℤ) (ws₀ : List ℕ) (cs₀ : List ℤ) → HeldSum ws cs → weight (slope v (terms ws cs)) ≤ largestWeight → Room ws₀ cs₀
-    → Sloping v ws cs ws₀ cs₀ ws₀ cs₀ 0 0
+pub form-start : (v n : ℕ) (ws₀ : List ℕ) (cs₀ : List ℤ) → HeldSum (take n ws₀) (take n cs₀) → weight (slope v (firstTerms n ws₀ cs₀)) ≤ largestWeight
+    → n ≤ length ws₀ → n ≤ length cs₀ → Sloping v (take n ws₀) (take n cs₀) ws₀ cs₀ ws₀ cs₀ 0 0
 unfolding slopeTerms
-form-start v ws cs ws₀ cs₀ sum light room = record {
+form-start v n ws₀ cs₀ sum light words-room coefficients-room = record {
   stored = stored-none ws₀ cs₀;
   many = refl;
   fewer = omega arith;
   sum = sum;
   light = light;
   inside = omega arith;
-  words-room = room .words;
-  coefficients-room = room .coefficients;
+  words-room = omega (arith, length-take-le n ws₀ words-room);
+  coefficients-room = omega (arith, length-take-le n cs₀ coefficients-room);
 }
 
 module _ {v : ℕ} {ws : List ℕ} {cs : List ℤ} {ws₀ : List ℕ} {cs₀ : List ℤ} {patterns : List ℕ} {coefficients : List ℤ} {count k : ℕ}
@@ -163,7 +163,7 @@ module _ {v : ℕ} {ws : List ℕ} {cs : List ℤ} {ws₀ : List ℕ} {cs₀ : L
         record {
           stored = rw more
               (stored-next (f .stored) (slopeTerm v t) count p d (f .many)
-              (omega (arith, f .fewer, f .words-room, f .sum .held .few)) (omega (arith, f .fewer, f .coefficients-room, f .sum .held .few))
+              (omega (arith, f .fewer, f .words-room)) (omega (arith, f .fewer, f .coefficients-room, as-many (f .sum .held)))
               (word-is ∙ sym (word-for (lowered v e) long)) coefficient-is);
           many = ap length more ∙ length-append so-far (slopeTerm v t ∷ []) ∙ ap (λ (n : ℕ). n + 1) (f .many);
           fewer = omega (arith, f .fewer);
@@ -189,3 +189,22 @@ module _ {v : ℕ} {ws : List ℕ} {cs : List ℤ} {ws₀ : List ℕ} {cs₀ : L
 
     pub form-coefficients : coefficients ≡ written (coefficientsOf (slope v (terms ws cs))) cs₀
     form-coefficients = rw whole at (f .stored .coefficients-are)
+
+-- ---- The slope takes the places of the sum: what is not read yet stands there still.
+
+module _ {v n : ℕ} {ws₀ : List ℕ} {cs₀ : List ℤ} {patterns : List ℕ} {coefficients : List ℤ} {count k : ℕ}
+    (f : Sloping v (take n ws₀) (take n cs₀) ws₀ cs₀ patterns coefficients count k) (h : k < n) where
+  abbrev so-far : Sum
+  so-far = slopeTerms v (take k (firstTerms n ws₀ cs₀))
+
+  pub word-here : getD patterns k 0 ≡ getD (take n ws₀) k 0
+  word-here =
+      ap (λ (l : List ℕ). getD l k 0) (f .stored .words-are)
+      ∙ getD-written (wordsOf so-far) ws₀ k 0 (omega (arith, length-map so-far (λ (u : Term). wordFor (u .pattern)), f .many, f .fewer))
+      ∙ sym (getD-take n ws₀ k 0 h)
+
+  pub coefficient-here : getD coefficients k (pos 0) ≡ getD (take n cs₀) k (pos 0)
+  coefficient-here =
+      ap (λ (l : List ℤ). getD l k (pos 0)) (f .stored .coefficients-are)
+      ∙ getD-written (coefficientsOf so-far) cs₀ k (pos 0) (omega (arith, length-map so-far (λ (u : Term). u .coefficient), f .many, f .fewer))
+      ∙ sym (getD-take n cs₀ k (pos 0) h)

@@ -15,7 +15,7 @@ use Rattle.numbers.specs.Number.{readNumber}
 use Rattle.numbers.proofs.Items as items
 use Rattle.packed.specs.ReadSum.{readSum}
 use Rattle.packed.proofs.Trip.{sum-written}
-use Rattle.packed.proofs.Results.{ReadAt}
+use Rattle.packed.proofs.Taking.{ReadAt}
 use Rattle.sums.proofs.Parts.{span}
 use Rattle.change.specs.Pairs.{Pair, pair, Fault, Fault.unknown, Listed, Listed.listed, Listed.faulty, mapped, readPairs}
 use Rattle.change.specs.Kept.{itemFault, pairsFrom, Kept, KeepsRead}

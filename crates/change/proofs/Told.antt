@@ -14,10 +14,9 @@ use Rattle.answers.specs.Judge.{Judged, Judged.good, Judged.fails, andThen}
 use Rattle.answers.specs.declared.Answer.{Answer}
 use Rattle.answers.specs.declared.Answer.the-variants.{Done, Refused}
 use Rattle.answers.proofs.Answer.{the-type}
-use Rattle.answers.proofs.Judging.{good-fails}
+use Rattle.answers.proofs.Judging.{good-fails, refused-done}
 use Rattle.answers.proofs.Writes.{written-front}
 use Rattle.packed.specs.Result.{heldInto}
-use Rattle.packed.proofs.Inverse.{refused-done}
 use Rattle.change.specs.Kept.{termsTold, HoldsGood}
 
 -- what is to be ensured of an answer, with two areas

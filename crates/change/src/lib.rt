@@ -6,13 +6,16 @@ use algebra::WORK_PLACES;
 use answers::Answer;
 use answers::Refusal;
 use answers::areas;
+use numbers::Read;
 use packed::writer;
 ghost use mathlib.Core.Path.{_≡_};
 ghost use Prim.Native.Nat.{_≤_};
 ghost use lib.ListN.{length, drop};
 ghost use Rattle.algebra.specs.Limits.{variables, workPlaces};
 ghost use Rattle.answers.specs.Answers.{told, outcome};
+ghost use Rattle.numbers.specs.Item.{Item.got};
 ghost use Rattle.packed.specs.Packed.{mostBytes};
+ghost use Rattle.packed.specs.Held.{readCount};
 ghost use Rattle.packed.specs.Result.{packedInto};
 ghost use Rattle.change.specs.Slope.{slope};
 ghost use Rattle.change.specs.Substitute.{judgeSubstitute, substitute};
@@ -26,18 +29,25 @@ use lists::Listed;
 // As many pairs as there are variables.
 const MOST_PAIRS: usize = Pattern::VARIABLES as usize;
 
-// The slope of a packed sum by the variable v.
-pub fn slope(bytes: &[u8], v: u64, result: &mut [u8]) -> Answer
+// The slope of a packed sum of n terms, which begin at a place. They are read into two arrays of the caller's own, and the slope is formed there.
+fn slope_terms(
+    bytes: &[u8],
+    at: usize,
+    n: usize,
+    v: u64,
+    sp: &mut [u64],
+    sc: &mut [i64],
+    result: &mut [u8],
+) -> Answer
+    requires { ⌜ readCount (now bytes) 0 ≡ got n at ⌝ }
+    requires { ⌜ n ≤ length (now sp) ⌝ }
+    requires { ⌜ n ≤ length (now sc) ⌝ }
+    requires { ⌜ mostBytes variables ≤ length (now result) ⌝ }
     ensures { λ r. ⌜ outcome (told r) (now (result .exit)) ≡ slope (now (bytes .entry)) v (now (result .entry)) ⌝ }
 {
-    if result.len() < packed::MOST_BYTES {
-        return Answer::Refused(Refusal::Room, 0);
-    }
-    let mut sp = [0u64; MOST_TERMS];
-    let mut sc = [0i64; MOST_TERMS];
-    let sum = packed::unpack(bytes, &mut sp, &mut sc);
-    let Answer::Done(n) = sum else {
-        return sum;
+    let taken = packed::take_whole(bytes, at, n, sp, sc);
+    let Answer::Done(_) = taken else {
+        return taken;
     };
     if v >= Pattern::VARIABLES {
         return Answer::Refused(Refusal::Variable, 0);
@@ -45,15 +55,35 @@ pub fn slope(bytes: &[u8], v: u64, result: &mut [u8]) -> Answer
     if slopes::weigh(v, &sp[0..n], &sc[0..n]) > LARGEST_WEIGHT {
         return Answer::Refused(Refusal::Weight, 0);
     }
-    let mut patterns = [0u64; MOST_TERMS];
-    let mut coefficients = [0i64; MOST_TERMS];
-    let count = slopes::form(v, &sp[0..n], &sc[0..n], &mut patterns, &mut coefficients);
+    let count = slopes::form(v, n, sp, sc);
     // It has no more terms than the sum, so this is never met.
     if count > MOST_TERMS {
         return Answer::Refused(Refusal::Spread, 0);
     }
-    let length = writer::write_sum(result, 0, &patterns, &coefficients, count);
+    let length = writer::write_sum(result, 0, sp, sc, count);
     Answer::Done(length)
+}
+
+// The slope of a packed sum by the variable v. Few terms go through small arrays.
+pub fn slope(bytes: &[u8], v: u64, result: &mut [u8]) -> Answer
+    ensures { λ r. ⌜ outcome (told r) (now (result .exit)) ≡ slope (now (bytes .entry)) v (now (result .entry)) ⌝ }
+{
+    if result.len() < packed::MOST_BYTES {
+        return Answer::Refused(Refusal::Room, 0);
+    }
+    let first = packed::read_count(bytes, 0);
+    let Read::Value(number, next) = first else {
+        return packed::refused(first);
+    };
+    let n = number as usize;
+    if n <= packed::FEW_TERMS {
+        let mut few = [0u64; packed::FEW_TERMS];
+        let mut few_coefficients = [0i64; packed::FEW_TERMS];
+        return slope_terms(bytes, next, n, v, &mut few, &mut few_coefficients, result);
+    }
+    let mut sp = [0u64; MOST_TERMS];
+    let mut sc = [0i64; MOST_TERMS];
+    slope_terms(bytes, next, n, v, &mut sp, &mut sc, result)
 }
 
 // Writes the packed sum that the list makes of a packed sum. Of the work areas only this is said: their further places stay. The caller clears the rest.
@@ -71,10 +101,15 @@ fn substitute_list(
     ensures { λ r. ⌜ drop workPlaces (now (patterns .exit)) ≡ drop workPlaces (now (patterns .entry)) ⌝ }
     ensures { λ r. ⌜ drop workPlaces (now (coefficients .exit)) ≡ drop workPlaces (now (coefficients .entry)) ⌝ }
 {
+    let first = packed::read_count(bytes, 0);
+    let Read::Value(number, next) = first else {
+        return packed::refused(first);
+    };
+    let n = number as usize;
     let mut fp = [0u64; MOST_TERMS];
     let mut fc = [0i64; MOST_TERMS];
-    let sum = packed::unpack(bytes, &mut fp, &mut fc);
-    let Answer::Done(n) = sum else {
+    let sum = packed::take_whole(bytes, next, n, &mut fp, &mut fc);
+    let Answer::Done(_) = sum else {
         return sum;
     };
     let mut letters = [0u64; MOST_PAIRS];

@@ -5,23 +5,23 @@ use mathlib.Core.List.{[], _∷_, append-nil}
 use Prim.Native.Nat.{ℕ, zero, suc, _+_, _*_, _^_, max, _≤_, _<_}
 use native.Mathlib.Omega.{arith}
 use native.Mathlib.Decide.{decLt}
-use native.Mathlib.Nat.{le-refl, le-trans, le-max-left, le-max-right, mul-le-mul-right}
+use native.Mathlib.Nat.{le-trans, le-max-left, le-max-right, mul-le-mul-right}
 use lib.Dec.{T}
 use lib.IntN.{ℤ, pos, negsuc, natAbs}
 use lib.ListN.{length}
 use Rattle.algebra.specs.Pattern.{Pattern, emptyPattern, degree, exponent, without}
-use Rattle.algebra.specs.Sum.{Term, term, Sum, isZero, noZero, degreeOf, weight}
+use Rattle.algebra.specs.Sum.{term, Sum, isZero, noZero, degreeOf, weight}
 use Rattle.algebra.specs.Arithmetic.{unit, row, pairs, productSpread, power, powerSpread}
 use Rattle.algebra.specs.Substitute.{pairDegree, pairWeight, largestPower}
-use Rattle.algebra.proofs.Patterns.Laws.{times-degree}
-use Rattle.algebra.proofs.Sums.Every.{Every, row-every, UpTo, degree-every}
+use Rattle.algebra.proofs.Patterns.Laws.{degree-times}
+use Rattle.algebra.proofs.Sums.Every.{Every, pairs-every, UpTo, degree-every}
 use Rattle.algebra.proofs.Sums.Ordered.{full-head, full-tail}
 use Rattle.algebra.proofs.Sums.Occurs.{spread-length}
 use Rattle.algebra.proofs.Sums.Results.{power-degree}
 use Rattle.sums.proofs.MakeRow.{row-length}
 use Rattle.sums.proofs.Raising.{spread-next}
-use Rattle.pair.specs.Rows.{rowsAt}
-use Rattle.pair.proofs.ByPower.{rowOf, rows-every}
+use Rattle.pair.specs.Rows.{partAt, rowsAt}
+use Rattle.pair.proofs.TakingPart.{part-every}
 
 -- a coefficient that is not 0
 some : (c : ℤ) → T (not (isZero c)) → 1 ≤ natAbs c
@@ -76,16 +76,16 @@ module _ (v : ℕ) (S : Sum) where
       (le-trans (le-max-left other (pairDegree v S s)) h, each-within m s (le-trans (le-max-right other (pairDegree v S s)) h))
 
   pub rows-within : (n m k : ℕ) (s : Sum) → pairDegree v S s ≤ m → Every (UpTo m) (rowsAt v k (power n S k) s)
-  rows-within n m k s h = rows-every v k (power n S k) (UpTo m) (Within m) one s (each-within m s h)
+  rows-within n m k s h =
+      pairs-every Left (UpTo (k * degreeOf S)) (UpTo m) (λ p q a b. omega (arith, degree-times p q)) (partAt v k s) (power n S k)
+      (part-every v k Left (Within m) (λ p within is. at p k is within) s (each-within m s h)) (degree-every (k * degreeOf S) (power n S k) (power-degree n S k))
     where
-      one : (t : Term) → Within m (t .pattern) → exponent v (t .pattern) ≡ k → Every (UpTo m) (rowOf v (power n S k) t)
-      one t within is =
-          let other = degree (without v (t .pattern)) in
-          row-every (UpTo other) (UpTo (k * degreeOf S)) (UpTo m) (λ p q a b. le-trans (times-degree other (k * degreeOf S) p q a b) (at k is within))
-          (term (t .coefficient) (without v (t .pattern))) (power n S k) (le-refl other) (degree-every (k * degreeOf S) (power n S k) (power-degree n S k))
-        where
-          at : (k : ℕ) → exponent v (t .pattern) ≡ k → Within m (t .pattern) → degree (without v (t .pattern)) + k * degreeOf S ≤ m
-          at k is within = rw (← is) (unfold Within in within)
+      -- what the power leaves for the other exponents
+      Left : Pattern → Type 0
+      Left p = degree p + k * degreeOf S ≤ m
+
+      at : (p : Pattern) (k : ℕ) → exponent v p ≡ k → Within m p → degree (without v p) + k * degreeOf S ≤ m
+      at p k is within = rw (← is) (unfold Within in within)
 
 -- ---- One step of the powers. Its spread is judged, but for that of the first power: this is the sum itself, and has no more patterns than terms.
 

@@ -6,65 +6,41 @@ use Prim.Native.Nat.{ℕ, zero, suc, _+_, _-_, _≤_, _<_, max}
 use native.Mathlib.Omega.{arith}
 use native.Mathlib.Decide.{ℕ-discrete}
 use native.Mathlib.Nat.{le-refl, le-trans, zero-add}
-use borrow.Author.Tests.{eq-eqb, ne-eqb}
 use lib.IntN.{_+ℤ_}
-use lib.ListN.{length-set}
 use Rattle.algebra.specs.Pattern.{Pattern, exponent, without}
-use Rattle.algebra.specs.Sum.{Term, term, Sum, weight}
+use Rattle.algebra.specs.Sum.{Term, Sum, weight}
 use Rattle.algebra.specs.Collect.{collect, occurs, spread}
-use Rattle.algebra.specs.Arithmetic.{row, power}
+use Rattle.algebra.specs.Arithmetic.{row, pairs, power}
 use Rattle.algebra.specs.Substitute.{rows, pairRows, pairFactor, substitute, largestPower}
 use Rattle.algebra.specs.Value.{total}
 use Rattle.algebra.proofs.Numbers.Test.{or-swap}
 use Rattle.algebra.proofs.Numbers.Whole.{+ℤ-left-comm}
 use Rattle.algebra.proofs.Patterns.Laws.{times-length}
-use Rattle.algebra.proofs.Sums.Every.{Every, append-every, row-every, Long}
+use Rattle.algebra.proofs.Sums.Every.{Every, append-every, pairs-every, Long}
 use Rattle.algebra.proofs.Sums.Total.{total-append}
 use Rattle.algebra.proofs.Sums.Equal.{collect-equal}
 use Rattle.algebra.proofs.Sums.Spreads.{same-spread, append-occurs, spread-rises}
 use Rattle.algebra.proofs.Sums.Results.{append-weight}
-use Rattle.pair.specs.Rows.{rowsAt}
+use Rattle.pair.specs.Rows.{partAt, rowsAt}
+use Rattle.pair.proofs.TakingPart.{rest, part-this, part-other, part-long}
 
 -- ---- The rows of one power, term by term.
 
 -- the row of a term: without v, times each term of F
-abbrev pub rowOf : ℕ → Sum → Term → List Term
-rowOf v F t = row (term (t .coefficient) (without v (t .pattern))) F
+abbrev rowOf : ℕ → Sum → Term → List Term
+rowOf v F t = row (rest v t) F
 
 module _ (v k : ℕ) (F : Sum) where
-  pub rows-this : (t : Term) (s : Sum) → exponent v (t .pattern) ≡ k → rowsAt v k F (t ∷ s) ≡ rowOf v F t ++ rowsAt v k F s
-  unfolding rowsAt
-  rows-this t s is = rw (eq-eqb (exponent v (t .pattern)) k is)
+  rows-this : (t : Term) (s : Sum) → exponent v (t .pattern) ≡ k → rowsAt v k F (t ∷ s) ≡ rowOf v F t ++ rowsAt v k F s
+  unfolding pairs
+  rows-this t s is = ap (λ l. pairs l F) (part-this v k t s is)
 
-  pub rows-other : (t : Term) (s : Sum) → (exponent v (t .pattern) ≡ k → ⊥) → rowsAt v k F (t ∷ s) ≡ rowsAt v k F s
-  unfolding rowsAt
-  rows-other t s other = rw (ne-eqb (exponent v (t .pattern)) k other)
-
-  -- in parts
-  pub rows-append : (s r : Sum) → rowsAt v k F (s ++ r) ≡ rowsAt v k F s ++ rowsAt v k F r
-  rows-append [] r = unfold rowsAt in refl
-  rows-append (t ∷ s) r = go (ℕ-discrete (exponent v (t .pattern)) k) (rows-append s r)
-    where
-      go : Dec (exponent v (t .pattern) ≡ k) → rowsAt v k F (s ++ r) ≡ rowsAt v k F s ++ rowsAt v k F r → rowsAt v k F (t ∷ (s ++ r)) ≡ rowsAt v k F (t ∷ s) ++ rowsAt v k F r
-      go (yes is) ih =
-          rows-this t (s ++ r) is ∙ ap (λ l. rowOf v F t ++ l) ih ∙ sym (append-assoc (rowOf v F t) (rowsAt v k F s) (rowsAt v k F r))
-          ∙ ap (λ l. l ++ rowsAt v k F r) (sym (rows-this t s is))
-      go (no other) ih = rows-other t (s ++ r) other ∙ ih ∙ ap (λ l. l ++ rowsAt v k F r) (sym (rows-other t s other))
-
-  -- what holds of each of these terms' rows; Q is what is known of the patterns
-  pub rows-every : (P Q : Pattern → Type 0) → ((t : Term) → Q (t .pattern) → exponent v (t .pattern) ≡ k → Every P (rowOf v F t)) → (s : Sum) → Every Q s → Every P (rowsAt v k F s)
-  rows-every P Q h [] q = unfold rowsAt in tt
-  rows-every P Q h (t ∷ s) q = go (ℕ-discrete (exponent v (t .pattern)) k) (rows-every P Q h s (q .1))
-    where
-      go : Dec (exponent v (t .pattern) ≡ k) → Every P (rowsAt v k F s) → Every P (rowsAt v k F (t ∷ s))
-      go (yes is) rest = rw (rows-this t s is) (append-every P (rowOf v F t) (rowsAt v k F s) (h t (q .0) is) rest)
-      go (no other) rest = rw (rows-other t s other) rest
+  rows-other : (t : Term) (s : Sum) → (exponent v (t .pattern) ≡ k → ⊥) → rowsAt v k F (t ∷ s) ≡ rowsAt v k F s
+  rows-other t s other = ap (λ l. pairs l F) (part-other v k t s other)
 
 -- the rows of sums in n variables are in n variables
 pub rows-long : (n v k : ℕ) (F s : Sum) → Every (Long n) F → Every (Long n) s → Every (Long n) (rowsAt v k F s)
-rows-long n v k F s factor into =
-    rows-every v k F (Long n) (Long n)
-    (λ t long is. row-every (Long n) (Long n) (Long n) (times-length n) (term (t .coefficient) (without v (t .pattern))) F (length-set (t .pattern) v 0 ∙ long) factor) s into
+rows-long n v k F s factor into = pairs-every (Long n) (Long n) (Long n) (times-length n) (partAt v k s) F (part-long v k n s into) factor
 
 -- ---- Power by power.
 
@@ -75,7 +51,7 @@ module _ (n v : ℕ) (S : Sum) where
   rowsTo s (suc k) = rowsAt v (suc k) (power n S (suc k)) s ++ rowsTo s k
 
   pub none-to : (k : ℕ) → rowsTo [] k ≡ []
-  unfolding rowsTo rowsAt
+  unfolding rowsTo partAt pairs
   none-to zero = refl
   none-to (suc k) = none-to k
 

@@ -1,5 +1,6 @@
 -- The laws that other crates cite; the proofs of the functions stand beside them, a folder each.
 pub mod Measuring
+pub mod TakingPart
 pub mod ByPower
 pub mod Copying
 pub mod AddingRows

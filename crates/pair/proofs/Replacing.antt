@@ -2,9 +2,8 @@
 -- on the way was above 128.
 use mathlib.Core.Path.{_≡_, refl, sym, _∙_, ap, ap₂}
 use mathlib.Core.List.{List, [], _∷_, _++_, append-nil}
-use Prim.Native.Nat.{ℕ, _+_, _*_, _-_, max, _≤_, _<_}
+use Prim.Native.Nat.{ℕ, _+_, _*_, max, _≤_, _<_}
 use native.Mathlib.Omega.{arith}
-use native.Mathlib.Decide.{decLt}
 use native.Mathlib.Nat.{le-trans, le-max-left, le-max-right, max-le, mul-le-mul-right}
 use native.Mathlib.Numerals.{add-one}
 use lib.IntN.{ℤ, pos}
@@ -28,65 +27,22 @@ use Rattle.algebra.proofs.Sums.Substitutes.{pair-weights}
 use Rattle.answers.specs.Areas.{written}
 use Rattle.sums.specs.Asked as Asked
 use Rattle.sums.specs.Formed.{Formed, formedOf, Formed.formed, Formed.over, within, withRow, productOf, formedInto}
+use Rattle.sums.specs.Rows.{Added}
 use Rattle.sums.specs.declared.Formed as declared
-use Rattle.sums.specs.declared.Formed.the-variants.{Terms, Over}
+use Rattle.sums.specs.declared.Formed.the-variants.{Terms}
 use Rattle.sums.proofs.Formed.{the-type}
 use Rattle.sums.proofs.Holding.{Holdable, holdable}
-use Rattle.sums.proofs.Forming.{within-yes, within-no}
-use Rattle.sums.proofs.Answering.{given, refused, over-into}
-use Rattle.sums.proofs.Fronts.{Front, front-written, front-few, front-is, front-held}
-use Rattle.sums.proofs.Gathering.{gathered, finished}
+use Rattle.sums.proofs.Forming.{within-yes}
+use Rattle.sums.proofs.Answering.{number-refused, added-given, given, refused, over-into}
+use Rattle.sums.proofs.Fronts.{Placed, placed-few, placed-is, placed-held, placed-written, Front, front-written, front-is, front-held}
+use Rattle.sums.proofs.Gathering.{gathered, placed-finished}
 use Rattle.sums.proofs.Multiplying.{Factors, product-holdable, gather-rest, spread-rest, holdable-none}
 use Rattle.sums.proofs.Raising.{heavier, spread-rises}
 use Rattle.pair.specs.Asked.{Given, Allowed}
 use Rattle.pair.specs.Formed.{pairOf}
-use Rattle.pair.specs.Rows.{rowsAt, CanAdd, counted, Added}
+use Rattle.pair.specs.Rows.{rowsAt, CanAddRows}
 use Rattle.pair.proofs.Bounds.{power-low, power-light, rows-within, step-judged, step-narrow}
 use Rattle.pair.proofs.ByPower.{rows-long, rowsTo, all-collected, all-spread, to-spread, to-weight, to-every}
-
--- ---- What `add_rows` answers.
-
-module _ (m : ℕ) (s : Sum) (r : declared.Formed) {ws : List ℕ} {cs : List ℤ} (added : Added (within m s) (formedOf r) ws cs) where
-  -- the rows have too many patterns
-  pub added-over : OneOf (1 ∷ []) (tagOf the-type r) → (formedOf r ≡ over) × (mostTerms < m)
-  added-over key = go r key (added .number-is)
-    where
-      many : over ≡ counted (within m s) → mostTerms < m
-      many e = judge (decLt mostTerms m)
-        where
-          judge : Dec (mostTerms < m) → mostTerms < m
-          judge (yes h) = h
-          judge (no h) =
-              let told : over ≡ formed (length s) = e ∙ ap counted (within-yes m s (omega arith)) in
-              let z : _≡_ {A = ℕ} 0 1 = cc in absurd (omega arith)
-
-      go : (r : declared.Formed) → OneOf (1 ∷ []) (tagOf the-type r) → formedOf r ≡ counted (within m s) → (formedOf r ≡ over) × (mostTerms < m)
-      go (Terms n) key e = absurd (omega arith)
-      go Over key e = (refl, many e)
-
-  -- they have not, and the sum stands in the areas
-  pub added-front : {n : ℕ} → r ≡ Terms n → (m ≤ mostTerms → Holdable s) → mostTerms ≡ length ws → mostTerms ≡ length cs → Front s ws cs n
-  added-front {n} is holdable words-room coefficients-room = judge (decLt mostTerms m)
-    where
-      told : formed n ≡ counted (within m s)
-      told = ap formedOf (sym is) ∙ added .number-is
-
-      judge : Dec (mostTerms < m) → Front s ws cs n
-      judge (yes h) =
-          let never : formed n ≡ over = told ∙ ap counted (within-no m s h) in
-          let z : _≡_ {A = ℕ} 0 1 = cc in absurd (omega arith)
-      judge (no h) =
-          let yes = within-yes m s (omega arith) in
-          let all : formed n ≡ formed (length s) = told ∙ ap counted yes in
-          let many : length s ≡ n = cc in
-          record {
-            words-are = rw many at (added .words-are s yes);
-            coefficients-are = rw many at (added .coefficients-are s yes);
-            many = many;
-            holdable = holdable (omega arith);
-            words-room = words-room;
-            coefficients-room = coefficients-room;
-          }
 
 -- ---- A pair that is given, and allowed.
 
@@ -165,7 +121,9 @@ pub record Putting (v largest : ℕ) (sp : List ℕ) (sc : List ℤ) (fp : List 
   pub inside : k ≤ largest
   pub raised : Front (power variables (terms sp sc) k) wp wc n
   pub narrow : powerSpread variables (terms sp sc) k ≤ mostTerms
-  pub so-far : Front (gather (rowsTo variables v (terms sp sc) (terms fp fc) k)) gp gc all
+  pub so-far : Placed (gather (rowsTo variables v (terms sp sc) (terms fp fc) k)) all gp gc
+  pub words-room : mostTerms + mostTerms ≡ length gp
+  pub coefficients-room : mostTerms + mostTerms ≡ length gc
 
 -- And where the power k stands, and its rows are to be added to those before.
 pub record Joining (v largest : ℕ) (sp : List ℕ) (sc : List ℤ) (fp : List ℕ) (fc : List ℤ) (gp : List ℕ) (gc : List ℤ) (wp : List ℕ) (wc : List ℤ)
@@ -178,7 +136,9 @@ pub record Joining (v largest : ℕ) (sp : List ℕ) (sc : List ℤ) (fp : List 
   pub narrow : powerSpread variables (terms sp sc) k ≤ mostTerms
   pub before : List Term
   pub rows-are : rowsTo variables v (terms sp sc) (terms fp fc) k ≡ rowsAt v k (power variables (terms sp sc) k) (terms fp fc) ++ before
-  pub so-far : Front (gather before) gp gc all
+  pub so-far : Placed (gather before) all gp gc
+  pub words-room : mostTerms + mostTerms ≡ length gp
+  pub coefficients-room : mostTerms + mostTerms ≡ length gc
 
 -- the power 0 is 1
 first-power : (S : Sum) {ws : List ℕ} {cs : List ℤ} (ws₀ : List ℕ) (cs₀ : List ℤ) {answer : Formed ℕ}
@@ -192,7 +152,7 @@ first-power S ws₀ cs₀ told words-room coefficients-room =
     (record { long = p .long; strict = p .strict; low = unfold degreeOf in omega (arith, empty-degree variables); few = omega arith }) words-room coefficients-room
 
 pub start : {v largest : ℕ} {sp : List ℕ} {sc : List ℤ} {fp : List ℕ} {fc : List ℤ} (gp : List ℕ) (gc : List ℤ) (wp₀ : List ℕ) (wc₀ : List ℤ) {wp : List ℕ} {wc : List ℤ}
-    → Given v sp sc fp fc → Allowed v sp sc fp fc → largest ≡ largestPower v (terms fp fc) → mostTerms ≡ length gp → mostTerms ≡ length gc
+    → Given v sp sc fp fc → Allowed v sp sc fp fc → largest ≡ largestPower v (terms fp fc) → mostTerms + mostTerms ≡ length gp → mostTerms + mostTerms ≡ length gc
     → {answer : Formed ℕ} → (answer, wp, wc) ≡ formedInto (formed (integer variables (pos 1))) wp₀ wc₀ → mostTerms ≡ length wp → mostTerms ≡ length wc
     → Joining v largest sp sc fp fc gp gc wp wc 1 0 0
 unfolding powerSpread gather rowsTo
@@ -205,7 +165,9 @@ start {v} {sp = sp} {sc} {fp} {fc} gp gc wp₀ wc₀ g a largest-is words-room c
   narrow = omega arith;
   before = [];
   rows-are = sym (append-nil (rowsAt v 0 (power variables (terms sp sc) 0) (terms fp fc)));
-  so-far = front-written gp gc refl refl refl holdable-none words-room coefficients-room;
+  so-far = placed-written gp gc refl refl refl holdable-none;
+  words-room = words-room;
+  coefficients-room = coefficients-room;
 }
 
 -- ---- The rows of the power k are added.
@@ -226,24 +188,24 @@ module _ {v largest : ℕ} {sp : List ℕ} {sc : List ℤ} {fp : List ℕ} {fc :
     lent : firstTerms count wp wc ≡ power variables (terms sp sc) k
     lent = ap (λ (i : ℕ). firstTerms i wp wc) all-lent ∙ front-is (j .raised)
 
-    pub can-add : CanAdd v k fp fc (take count wp) (take count wc) gp gc all
+    pub can-add : CanAddRows v k fp fc (take count wp) (take count wc) gp gc all
     can-add = record {
       known = j .given-pair .known;
       into = j .given-pair .into .held;
       factor = rw all-lent (front-held (j .raised));
-      running = front-held (j .so-far);
-      few = front-few (j .so-far);
+      running = placed-held (j .so-far);
+      few = placed-few (j .so-far);
       low = rw lent (every-degree largestDegree own (at-low (j .given-pair) (j .allowed) k));
-      light = rw (lent, front-is (j .so-far))
+      light = rw (lent, placed-is (j .so-far))
           (omega (arith, gather-weight (j .before), append-weight own (j .before), ap weight (j .rows-are), to-light (j .given-pair) (j .allowed) k within-largest));
-      words-room = j .so-far .words-room;
-      coefficients-room = j .so-far .coefficients-room;
+      words-room = omega (arith, j .words-room);
+      coefficients-room = omega (arith, j .coefficients-room);
     }
 
     joined : withRow (rowsAt v k (firstTerms count wp wc) (terms fp fc)) (firstTerms all gp gc) ≡ within (spread whole) (gather whole)
     unfolding withRow
     joined =
-        ap₂ (λ F l. withRow (rowsAt v k F (terms fp fc)) l) lent (front-is (j .so-far))
+        ap₂ (λ F l. withRow (rowsAt v k F (terms fp fc)) l) lent (placed-is (j .so-far))
         ∙ ap₂ within (spread-rest own (j .before) ∙ ap spread (sym (j .rows-are))) (gather-rest own (j .before) ∙ ap gather (sym (j .rows-are)))
 
     -- what `add_rows` answers
@@ -254,20 +216,23 @@ module _ {v largest : ℕ} {sp : List ℕ} {sc : List ℤ} {fp : List ℕ} {fc :
 
       pub rows-stop : Stops v (terms sp sc) (terms fp fc) r
       rows-stop key ps ds =
-          let no = added-over (spread whole) (gather whole) r rows-told key in
+          let no = number-refused (spread whole) (gather whole) r key (rows-told .number-is) in
           wide-rows (j .given-pair) (j .allowed) r (no .0) ps ds k within-largest (no .1)
 
       pub joins : {together : ℕ} → r ≡ Terms together → length gp' ≡ length gp → length gc' ≡ length gc → Putting v largest sp sc fp fc gp' gc' wp wc n together k
-      joins is same-words same-coefficients = record {
-        given-pair = j .given-pair;
-        allowed = j .allowed;
-        largest-is = j .largest-is;
-        inside = j .inside;
-        raised = j .raised;
-        narrow = j .narrow;
-        so-far = added-front (spread whole) (gather whole) r rows-told is (to-holdable (j .given-pair) (j .allowed) k)
-            (j .so-far .words-room ∙ sym same-words) (j .so-far .coefficients-room ∙ sym same-coefficients);
-      }
+      joins is same-words same-coefficients =
+          let yes = added-given (spread whole) (gather whole) gp' gc' r is rows-told in
+          record {
+            given-pair = j .given-pair;
+            allowed = j .allowed;
+            largest-is = j .largest-is;
+            inside = j .inside;
+            raised = j .raised;
+            narrow = j .narrow;
+            so-far = record { stands = yes .1; holdable = to-holdable (j .given-pair) (j .allowed) k (yes .0) };
+            words-room = j .words-room ∙ sym same-words;
+            coefficients-room = j .coefficients-room ∙ sym same-coefficients;
+          }
 
 -- ---- The next power, or the end.
 
@@ -321,6 +286,8 @@ module _ {v largest : ℕ} {sp : List ℕ} {sc : List ℤ} {fp : List ℕ} {fc :
             before = rowsTo variables v base (terms fp fc) k;
             rows-are = rw (add-one k) (unfold rowsTo in refl);
             so-far = p .so-far;
+            words-room = p .words-room;
+            coefficients-room = p .coefficients-room;
           }
 
   -- at the largest power the rows of all terms are added
@@ -332,10 +299,10 @@ module _ {v largest : ℕ} {sp : List ℕ} {sc : List ℤ} {fp : List ℕ} {fc :
       let rows = rowsTo variables v S s k in
       let at-end : k ≡ largestPower v s = omega (arith, p .inside, p .largest-is) in
       let reached : largestPower v s ≤ k = omega arith in
-      let few : spread rows ≤ mostTerms = omega (arith, spread-gather rows, p .so-far .many, front-few (p .so-far)) in
+      let few : spread rows ≤ mostTerms = omega (arith, spread-gather rows, p .so-far .holdable .few) in
       let steps : powerSpread variables S (largestPower v s) ≤ mostTerms = rw at-end at (p .narrow) in
       let together : spread (pairRows variables v S s) ≤ mostTerms = omega (arith, all-spread variables v S s k reached) in
-      finished rows (p .so-far) ∙ within-yes (spread rows) (collect rows) few ∙ ap formed (all-collected variables v S s k reached)
+      placed-finished rows (p .so-far) ∙ within-yes (spread rows) (collect rows) few ∙ ap formed (all-collected variables v S s k reached)
       ∙ sym
       (within-yes (max (powerSpread variables S (largestPower v s)) (spread (pairRows variables v S s))) (substitute variables v S s)
       (max-le steps together))

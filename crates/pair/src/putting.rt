@@ -4,22 +4,50 @@ use algebra::MOST_TERMS;
 use algebra::Pattern;
 use answers::areas;
 use sums::Formed;
+use sums::MOST_PLACES;
 use sums::rows;
 ghost use mathlib.Core.Path.{_≡_};
-ghost use Prim.Native.Nat.{_≤_};
+ghost use Prim.Native.Nat.{_≤_, _<_};
 ghost use lib.ListN.{take};
-ghost use Rattle.algebra.specs.Limits.{mostTerms};
+ghost use Rattle.algebra.specs.Limits.{variables, mostTerms};
 ghost use Rattle.algebra.specs.Substitute.{largestPower};
 ghost use Rattle.algebra.specs.Word.{terms};
 ghost use Rattle.algebra.specs.Held.{firstTerms};
+ghost use Rattle.sums.specs.Held.{Held};
 ghost use Rattle.sums.specs.Asked.{Room, Factors};
 ghost use Rattle.sums.specs.Formed.{formedOf, productOf, withRow, formedInto};
+ghost use Rattle.sums.specs.Rows.{Stands, Added};
 ghost use Rattle.pair.specs.Asked.{Given, Allowed};
 ghost use Rattle.pair.specs.Formed.{pairOf};
-ghost use Rattle.pair.specs.Rows.{rowsAt, CanAdd, Added};
+ghost use Rattle.pair.specs.Rows.{partAt, rowsAt, CanAddRows};
 
-// The rows of the terms with the power k of v go into the running sum, which has n terms: the last of them first, so that together they are the rows of the
-// rest of the sum, before what was there.
+// The terms with the power k of v, without it: they keep their order. It answers how many they are.
+fn take_part(v: u64, k: u64, fp: &[u64], fc: &[i64], pp: &mut [u64], pc: &mut [i64]) -> usize
+    requires { ⌜ v < variables ⌝ }
+    requires { ⌜ Held (now fp) (now fc) ⌝ }
+    requires { ⌜ Room (now pp) (now pc) ⌝ }
+    ensures { λ r. ⌜ Stands (partAt v k (terms (now (fp .entry)) (now (fc .entry)))) r (now (pp .exit)) (now (pc .exit)) ⌝ }
+{
+    let mut count = 0;
+    let mut i = 0;
+    while i < fp.len() {
+        let pattern = Pattern(fp[i]);
+        if pattern.exponent(v) == k {
+            let c = fc[i];
+            let rest = pattern.without(v);
+            pp[count] = rest.0;
+            pc[count] = c;
+            count += 1;
+            i += 1;
+        } else {
+            i += 1;
+        }
+    }
+    count
+}
+
+// The rows of the terms with the power k of v go into the running sum, which has n terms: all pairs of these terms and of the power that is put for v,
+// with a row for each term of the shorter of the two.
 fn add_rows(
     v: u64,
     k: u64,
@@ -31,28 +59,16 @@ fn add_rows(
     gc: &mut [i64],
     n: usize,
 ) -> Formed
-    requires { ⌜ CanAdd v k (now fp) (now fc) (now wp) (now wc) (now gp) (now gc) n ⌝ }
+    requires { ⌜ CanAddRows v k (now fp) (now fc) (now wp) (now wc) (now gp) (now gc) n ⌝ }
     ensures { λ r. ⌜ Added (withRow (rowsAt v k (terms (now (wp .entry)) (now (wc .entry))) (terms (now (fp .entry)) (now (fc .entry)))) (firstTerms n (now (gp .entry)) (now (gc .entry)))) (formedOf r) (now (gp .exit)) (now (gc .exit)) ⌝ }
 {
-    let mut rp = [0u64; MOST_TERMS];
-    let mut rc = [0i64; MOST_TERMS];
-    let m = wp.len();
-    let mut all = n;
-    let mut left = fp.len();
-    while left > 0 {
-        left -= 1;
-        let pattern = Pattern(fp[left]);
-        if pattern.exponent(v) == k {
-            let c = fc[left];
-            rows::make_row(pattern.without(v), c, wp, wc, &mut rp, &mut rc);
-            let formed = rows::add_row(gp, gc, all, &rp[0..m], &rc[0..m]);
-            let Formed::Terms(together) = formed else {
-                return formed;
-            };
-            all = together;
-        }
+    let mut pp = [0u64; MOST_TERMS];
+    let mut pc = [0i64; MOST_TERMS];
+    let m = take_part(v, k, fp, fc, &mut pp, &mut pc);
+    if m < wp.len() {
+        return rows::add_product(gp, gc, n, &pp[0..m], &pc[0..m], wp, wc);
     }
-    Formed::Terms(all)
+    rows::add_product(gp, gc, n, wp, wc, &pp[0..m], &pc[0..m])
 }
 
 // The power becomes the next one.
@@ -97,8 +113,8 @@ pub fn put(
     requires { ⌜ Room (now patterns) (now coefficients) ⌝ }
     ensures { λ r. ⌜ (formedOf r, now (patterns .exit), now (coefficients .exit)) ≡ formedInto (pairOf v (terms (now (sp .entry)) (now (sc .entry))) (terms (now (fp .entry)) (now (fc .entry)))) (now (patterns .entry)) (now (coefficients .entry)) ⌝ }
 {
-    let mut gp = [0u64; MOST_TERMS];
-    let mut gc = [0i64; MOST_TERMS];
+    let mut gp = [0u64; MOST_PLACES];
+    let mut gc = [0i64; MOST_PLACES];
     let mut wp = [0u64; MOST_TERMS];
     let mut wc = [0i64; MOST_TERMS];
     // The power 0 is 1, which has one term.

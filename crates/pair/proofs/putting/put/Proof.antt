@@ -8,7 +8,7 @@ use lib.IntN.{pos}
 use lib.ListN.{replicate}
 use Rattle.algebra.specs.Limits.{mostTerms}
 use Rattle.sums.specs.Formed.{formedInto}
-use Rattle.sums.proofs.Fronts.{front-few, front-held}
+use Rattle.sums.proofs.Fronts.{placed-held, front-few}
 use Rattle.pair.proofs.Replacing.{Putting, Joining, start, can-add, rows-stop, joins, can-raise, power-stop, raises, ended}
 use Rattle.pair.proofs.putting.put.Statement.{statement}
 use Rattle.pair.proofs.putting.put.Tie as tie
@@ -33,10 +33,10 @@ integer-requires c κs = record { words = search needs; coefficients = search ne
 -- the power 0 stands in the arrays, and no rows are added yet
 first-rows : (d : tie.After-integer Inv-loop μ-loop)
     → let args = d .before .before .before .before .before .before .args in
-    Joining (args .v) (args .largest) (args .sp .now) (args .sc .now) (args .fp .now) (args .fc .now) (replicate mostTerms 0) (replicate mostTerms (pos 0)) (d .integer .last .1 .0) (d .integer .last .1 .1 .0) 1 0 0
+    Joining (args .v) (args .largest) (args .sp .now) (args .sc .now) (args .fp .now) (args .fc .now) (replicate (mostTerms + mostTerms) 0) (replicate (mostTerms + mostTerms) (pos 0)) (d .integer .last .1 .0) (d .integer .last .1 .1 .0) 1 0 0
 first-rows d =
     let pre = d .before .before .before .before .before .before .pre in
-    start (replicate mostTerms 0) (replicate mostTerms (pos 0)) (replicate mostTerms 0) (replicate mostTerms (pos 0)) (pre .0) (pre .1 .0) (pre .1 .1 .0) refl refl (d .integer .ensures) (sym (d .integer .kept .1 .0)) (sym (d .integer .kept .1 .1 .0))
+    start (replicate (mostTerms + mostTerms) 0) (replicate (mostTerms + mostTerms) (pos 0)) (replicate mostTerms 0) (replicate mostTerms (pos 0)) (pre .0) (pre .1 .0) (pre .1 .1 .0) refl refl (d .integer .ensures) (sym (d .integer .kept .1 .0)) (sym (d .integer .kept .1 .1 .0))
 
 sub-add-rows : tie.Need-sub-add-rows Inv-loop μ-loop
 sub-add-rows c = search needs
@@ -184,7 +184,7 @@ part-finish-end-2 c = search needs
 finish-requires : tie.Need-finish-requires Inv-loop μ-loop
 finish-requires c κs =
     let loop = c .before .before .before .before .before .before .before .loop in
-    (rw (sub-zero (loop .all)) (front-held (loop .inv .so-far)), c .before .before .before .before .before .before .before .before .before .before .before .before .before .before .before .before .before .before .before .before .before .before .before .before .before .before .before .before .pre .1 .1 .1)
+    (rw (sub-zero (loop .all)) (placed-held (loop .inv .so-far)), c .before .before .before .before .before .before .before .before .before .before .before .before .before .before .before .before .before .before .before .before .before .before .before .before .before .before .before .before .pre .1 .1 .1)
 
 same-length : tie.Need-same-length Inv-loop μ-loop
 same-length c = search needs
