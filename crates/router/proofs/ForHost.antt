@@ -1,17 +1,13 @@
 -- What the estimate answers fits in the number for a C host, and what the host learns from it.
-use mathlib.Core.Path.{_≡_, ap, subst}
+use mathlib.Core.Path.{_≡_, subst}
 use mathlib.Core.List.{List, [], _∷_}
 use Prim.Native.Nat.{ℕ, _+_, _*_, _/_, _%_, _≤_, _<_}
 use native.Mathlib.Omega.{arith}
 use lib.Dec.{T, lt→ltb}
 use lib.ListN.{length, getD}
-use Rattle.algebra.specs.Limits.{variables}
 use Rattle.answers.specs.Answers.{Told, Told.done, Told.refused}
 use Rattle.answers.specs.Host.{hostNumber, fitsHost, hosted}
-use Rattle.numbers.specs.Item.{placeOf}
-use Rattle.packed.specs.ReadSum.{readWhole}
-use Rattle.packed.proofs.Places.{place-small}
-use Rattle.packed.proofs.Results.{AtFault, AtFault.is-cut, AtFault.is-bad}
+use Rattle.packed.proofs.Results.{fault-small}
 use Rattle.router.specs.Readings.{numbersOf}
 use Rattle.router.specs.Estimate.{answerBytes, estimate, hostUnit}
 use Rattle.router.proofs.Tolerances.{negative-inside}
@@ -25,13 +21,9 @@ numbers-most (low ∷ []) = omega arith
 numbers-most (low ∷ high ∷ rest) = omega (arith, numbers-most rest)
 
 module _ (bytes : List ℕ) (byte : (i : ℕ) → getD bytes i 0 < 256) (readings tolerances area : List ℕ) where
-  fault-place : {p : ℕ} → AtFault (readWhole variables bytes) p → p < hostUnit
-  fault-place (is-cut e) = omega (arith, place-small bytes byte, ap placeOf e)
-  fault-place (is-bad e) = omega (arith, place-small bytes byte, ap placeOf e)
-
   refusal-place : {refusal p : ℕ} {area' : List ℕ} → Refuses bytes readings tolerances area refusal p area' → p < hostUnit
   refusal-place (no-room short) = omega arith
-  refusal-place (at-sum room a) = fault-place a
+  refusal-place (at-sum room a) = fault-small bytes byte a
   refusal-place (at-length room s short) = omega arith
   refusal-place (at-tolerance room s l first) = omega (arith, negative-inside (numbersOf tolerances) first, numbers-most tolerances, l .tolerances-long)
   refusal-place (beyond room s g far) = omega arith

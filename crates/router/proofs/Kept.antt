@@ -32,6 +32,6 @@ module _ {raisedValue over under : ℕ} {s : Sum} {readings : List ℤ} {raised 
       let exact = capped-light raisedValue (size s raised) (kept .raised-is) h in
       let whole = exact ∙ ap (size s) are in
       let fits : above s readings + below s readings ≤ raisedValue = omega (arith, size-parts s readings, margin-whole s readings tolerances long, whole) in
-      let over-is : over ≡ above s readings = omega (arith, kept .above-is) in
-      let under-is : under ≡ below s readings = omega (arith, kept .below-is) in
+      let over-is : over ≡ above s readings = omega (arith, kept .above-is h) in
+      let under-is : under ≡ below s readings = omega (arith, kept .below-is h) in
       record { raised-is = exact; above-is = over-is; below-is = under-is; within = omega arith }

@@ -6,9 +6,11 @@ pub mod Tolerances
 pub mod Passing
 pub mod Raising
 pub mod PartsLaws
+pub mod Tables
 pub mod Kept
 pub mod Turning
 pub mod TermParts
+pub mod Quickly
 pub mod SumParts
 pub mod Estimating
 pub mod Answering

@@ -1,12 +1,13 @@
 -- What the loop of `sum_parts` keeps: what is kept of the terms so far.
-use mathlib.Core.Path.{_≡_, refl, sym, _∙_, ap₂}
+use mathlib.Core.Path.{_≡_, refl, sym, _∙_, ap, ap₂}
 use mathlib.Core.List.{List, [], _∷_, _++_}
 use Prim.Native.Nat.{ℕ, _+_, _≤_, _<_}
 use native.Mathlib.Omega.{arith}
 use native.Mathlib.Numerals.{add-one}
 use lib.IntN.{ℤ, pos}
-use lib.ListN.{length, getD, take}
+use lib.ListN.{length, getD, take, drop, take-append-drop}
 use lib.Seq.{take-suc, take-all, length-take-le}
+use Rattle.algebra.specs.Limits.{largestWeight}
 use Rattle.algebra.specs.Sum.{Term, term, Sum}
 use Rattle.algebra.specs.Word.{exponents, termsBy, terms}
 use Rattle.algebra.specs.Held.{firstTerms}
@@ -41,11 +42,18 @@ below-append x = append-adds (λ s. below s x) (λ t. underZero (termValue x t))
 -- what is kept of both adds up to what is kept of them together
 keeps-append : {x : List ℤ} {y : List ℕ} {r a b r' a' b' R A B : ℕ} {s t : Sum} → Keeps r a b s x y → Keeps r' a' b' t x y
     → R ≡ capped (r + r') → A ≡ capped (a + a') → B ≡ capped (b + b') → Keeps R A B (s ++ t) x y
-keeps-append {x} {y} {s} {t} k l R-is A-is B-is = record {
+keeps-append {x} {y} {r} {r' = r'} {R = R} {s = s} {t = t} k l R-is A-is B-is = record {
   raised-is = omega (arith, size-append y s t, k .raised-is, l .raised-is);
-  above-is = omega (arith, above-append x s t, k .above-is, l .above-is);
-  below-is = omega (arith, below-append x s t, k .below-is, l .below-is);
+  above-is = λ h. omega (arith, above-append x s t, k .above-is (first h), l .above-is (second h));
+  below-is = λ h. omega (arith, below-append x s t, k .below-is (first h), l .below-is (second h));
 }
+  where
+    -- two numbers that are light together are light
+    first : R ≤ largestWeight → r ≤ largestWeight
+    first h = omega (arith, R-is)
+
+    second : R ≤ largestWeight → r' ≤ largestWeight
+    second h = omega (arith, R-is)
 
 -- ---- The loop.
 
@@ -54,7 +62,7 @@ one-more l k d h = rw add-one (take-suc l k d h)
 
 pub start : {ws : List ℕ} {cs x : List ℤ} {y : List ℕ} → length cs ≡ length ws → Adding ws cs x y 0 0 0 0
 unfolding terms termsBy above below size
-start as-many = record { so-far = record { raised-is = omega arith; above-is = omega arith; below-is = omega arith }; as-many = as-many; inside = omega arith }
+start as-many = record { so-far = record { raised-is = omega arith; above-is = λ h. omega arith; below-is = λ h. omega arith }; as-many = as-many; inside = omega arith }
 
 module _ {ws : List ℕ} {cs x : List ℤ} {y : List ℕ} {raisedSize over under k : ℕ} (m : Adding ws cs x y raisedSize over under k) where
   module _ (h : k < length ws) where
@@ -79,3 +87,16 @@ module _ {ws : List ℕ} {cs x : List ℤ} {y : List ℕ} {raisedSize over under
   ended h =
       let short : length cs ≤ k = omega (arith, m .as-many) in
       rw (take-all k ws h, take-all k cs short) at (m .so-far)
+
+  split : terms ws cs ≡ firstTerms k ws cs ++ terms (drop k ws) (drop k cs)
+  unfolding terms
+  split =
+      ap₂ terms (sym (take-append-drop k ws)) (sym (take-append-drop k cs))
+      ∙ held-append exponents (take k ws) (take k cs) (drop k ws) (drop k cs)
+      (length-take-le k ws (m .inside) ∙ sym (length-take-le k cs (omega (arith, m .inside, m .as-many))))
+
+  -- once the terms so far are too much, so are all
+  pub beyond : largestWeight < raisedSize → Keeps raisedSize over under (terms ws cs) x y
+  beyond h =
+      let all : size (firstTerms k ws cs) y ≤ size (terms ws cs) y = omega (arith, ap (λ s. size s y) split, size-append y (firstTerms k ws cs) (terms (drop k ws) (drop k cs))) in
+      record { raised-is = omega (arith, m .so-far .raised-is, all); above-is = λ low. absurd (omega arith); below-is = λ low. absurd (omega arith) }

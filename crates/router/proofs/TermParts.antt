@@ -80,7 +80,7 @@ module _ {c : ℤ} {p : Pattern} {x : List ℤ} {y : List ℕ} {raisedSize size 
     b = getD y v 0
 
     -- the power of v is multiplied, whatever tells the products
-    step : {raisedSize' size' : ℕ} {negative' : Bool} → raisedSize' ≡ capped (m .most * b ^ e) → size' ≡ capped (m .plain * natAbs r ^ e)
+    pub step : {raisedSize' size' : ℕ} {negative' : Bool} → raisedSize' ≡ capped (m .most * b ^ e) → size' ≡ capped (m .plain * natAbs r ^ e)
         → Turns negative negative' r e → Multiplying c p x y raisedSize' size' negative' (v + 1)
     step {raisedSize'} {size'} {negative'} raised-step plain-step turns =
         let value-left = patternValue (drop (v + 1) p) (drop (v + 1) x) in
@@ -140,8 +140,8 @@ module _ {c : ℤ} {p : Pattern} {x : List ℤ} {y : List ℕ} {raisedSize size 
     unfolding above below size
     ended up-is down-is = record {
       raised-is = m .most-is ∙ ap capped (size-whole ∙ omega arith);
-      above-is = up-is ∙ ap (λ z. capped (overZero z)) value-whole ∙ omega arith;
-      below-is = down-is ∙ ap (λ z. capped (underZero z)) value-whole ∙ omega arith;
+      above-is = λ h. up-is ∙ ap (λ z. capped (overZero z)) value-whole ∙ omega arith;
+      below-is = λ h. down-is ∙ ap (λ z. capped (underZero z)) value-whole ∙ omega arith;
     }
 
     -- a negative term is all below 0, another all above

@@ -2,8 +2,9 @@
 use mathlib.Core.Path.{_≡_}
 use mathlib.Core.Bool.{Bool, true, false}
 use mathlib.Core.List.{List, [], _∷_}
-use Prim.Native.Nat.{ℕ, suc, _+_, _*_, _^_}
+use Prim.Native.Nat.{ℕ, suc, _+_, _*_, _^_, _≤_}
 use lib.IntN.{ℤ, pos, negsuc, negℤ, natAbs, _*ℤ_, pow}
+use Rattle.algebra.specs.Limits.{largestWeight}
 use Rattle.algebra.specs.Sum.{Sum}
 use Rattle.algebra.specs.Value.{termValue}
 use Rattle.algebra.specs.Margin.{size}
@@ -25,12 +26,12 @@ unfoldable pub below : Sum → List ℤ → ℕ
 below [] x = 0
 below (t ∷ s) x = underZero (termValue x t) + below s x
 
--- ---- What the code keeps of a sum, each number as a weight is kept.
+-- ---- What the code keeps of a sum, each number as a weight is kept. Once the raised value is too large, the other two do not matter any more.
 
 pub record Keeps (raisedValue over under : ℕ) (s : Sum) (readings : List ℤ) (raised : List ℕ) : Type 0 where
   pub raised-is : raisedValue ≡ capped (size s raised)
-  pub above-is : over ≡ capped (above s readings)
-  pub below-is : under ≡ capped (below s readings)
+  pub above-is : raisedValue ≤ largestWeight → over ≡ capped (above s readings)
+  pub below-is : raisedValue ≤ largestWeight → under ≡ capped (below s readings)
 
 -- a size, and whether it is that of a negative number
 abbrev pub withSign : Bool → ℕ → ℤ

@@ -4,6 +4,7 @@ use algebra::MOST_TERMS;
 use algebra::Pattern;
 use answers::Answer;
 use answers::Refusal;
+use numbers::Read;
 ghost use mathlib.Core.Path.{_≡_};
 ghost use Prim.Native.Nat.{_≤_};
 ghost use lib.ListN.{length};
@@ -12,11 +13,14 @@ ghost use Rattle.algebra.specs.Word.{terms};
 ghost use Rattle.answers.specs.Answers.{told, outcome};
 ghost use Rattle.answers.specs.Areas.{written};
 ghost use Rattle.answers.specs.Host.{hosted};
+ghost use Rattle.numbers.specs.Item.{Item.got};
+ghost use Rattle.packed.specs.Held.{readCount};
 ghost use Rattle.router.specs.Readings.{beforeNegative, measured};
 ghost use Rattle.router.specs.Estimate.{judgeRange, judgeTerms, answerBytes, answerOf, answerInto, estimate, hostUnit};
 ghost use Rattle.router.specs.Found.{foundOf};
 
 mod bytes;
+mod powers;
 mod readings;
 mod valuing;
 
@@ -109,24 +113,72 @@ fn estimate_terms(
     Answer::Done(ANSWER_BYTES)
 }
 
-// The estimate of a packed sum at the readings, and its margin.
+// The estimate of the packed sum whose `count` terms stand after its count; they go through two arrays of the caller's own.
+fn estimate_rest(
+    sum: &[u8],
+    at: usize,
+    count: usize,
+    readings: &[u8],
+    tolerances: &[u8],
+    patterns: &mut [u64],
+    coefficients: &mut [i64],
+    answer: &mut [u8],
+) -> Answer
+    requires { ⌜ readCount (now sum) 0 ≡ got count at ⌝ }
+    requires { ⌜ count ≤ length (now patterns) ⌝ }
+    requires { ⌜ count ≤ length (now coefficients) ⌝ }
+    requires { ⌜ answerBytes ≤ length (now answer) ⌝ }
+    ensures { λ r. ⌜ outcome (told r) (now (answer .exit)) ≡ estimate (now (sum .entry)) (now (readings .entry)) (now (tolerances .entry)) (now (answer .entry)) ⌝ }
+{
+    let taken = packed::take_whole(sum, at, count, patterns, coefficients);
+    let Answer::Done(_) = taken else {
+        return taken;
+    };
+    estimate_terms(
+        &patterns[0..count],
+        &coefficients[0..count],
+        readings,
+        tolerances,
+        answer,
+    )
+}
+
+// The estimate of a packed sum at the readings, and its margin. Few terms go through small arrays, as in unpacking.
 pub fn estimate(sum: &[u8], readings: &[u8], tolerances: &[u8], answer: &mut [u8]) -> Answer
     ensures { λ r. ⌜ outcome (told r) (now (answer .exit)) ≡ estimate (now (sum .entry)) (now (readings .entry)) (now (tolerances .entry)) (now (answer .entry)) ⌝ }
 {
     if answer.len() < ANSWER_BYTES {
         return Answer::Refused(Refusal::Room, 0);
     }
+    let first = packed::read_count(sum, 0);
+    let Read::Value(number, next) = first else {
+        return packed::refused(first);
+    };
+    let n = number as usize;
+    if n <= packed::FEW_TERMS {
+        let mut patterns = [0u64; packed::FEW_TERMS];
+        let mut coefficients = [0i64; packed::FEW_TERMS];
+        return estimate_rest(
+            sum,
+            next,
+            n,
+            readings,
+            tolerances,
+            &mut patterns,
+            &mut coefficients,
+            answer,
+        );
+    }
     let mut patterns = [0u64; MOST_TERMS];
     let mut coefficients = [0i64; MOST_TERMS];
-    let unpacked = packed::unpack(sum, &mut patterns, &mut coefficients);
-    let Answer::Done(n) = unpacked else {
-        return unpacked;
-    };
-    estimate_terms(
-        &patterns[0..n],
-        &coefficients[0..n],
+    estimate_rest(
+        sum,
+        next,
+        n,
         readings,
         tolerances,
+        &mut patterns,
+        &mut coefficients,
         answer,
     )
 }

@@ -38,7 +38,7 @@ difference-requires : tie.Need-difference-requires
 difference-requires c κs = omega (arith, parts-within c, c .if1 .left)
 
 add-plain : tie.Need-add-plain
-add-plain c = search needs
+add-plain c = let e = c .before .before in record { fits = omega (arith, parts-within e, e .if1 .left) }
 
 sub-margin : tie.Need-sub-margin
 sub-margin c = parts-within (c .before .before .before)

@@ -1,81 +1,65 @@
--- `sum_parts` meets its contract: the loop keeps `Adding`.
-use Prim.Native.Nat.{_-_}
+-- `sum_parts` meets its contract: few terms one by one, many by tables.
+use mathlib.Core.Logic.{⊎-elim}
+use native.Mathlib.Omega.{arith}
 use borrow.Author.Needs.{needs}
-use lib.IntN.{pos}
-use lib.ListN.{length, getD}
-use mir.Syntax.{w64}
-use mir.ValLaws.{toZ-ofZ}
-use Rattle.router.proofs.SumParts.{Adding, start, again, ended}
 use Rattle.router.proofs.valuing.sum_parts.Statement.{statement}
 use Rattle.router.proofs.valuing.sum_parts.Tie as tie
 
-abbrev Inv-loop : tie.InvT-loop
-Inv-loop patterns coefficients readings raised raised-size₀ above₀ below₀ k₀ raised-size above below k =
-    Adding patterns coefficients readings raised raised-size above below k
+few-parts-requires : tie.Need-few-parts-requires
+few-parts-requires c κs = search needs
 
-abbrev μ-loop : tie.MeasureT-loop
-μ-loop patterns coefficients readings raised raised-size₀ above₀ below₀ k₀ raised-size above below k = length patterns - k
+returns : tie.Need-returns
+returns c = search needs
 
-loop-holds : tie.Need-loop-holds Inv-loop μ-loop
-loop-holds c = start (c .before .before .pre .0)
+shared-slice-read-t15 : tie.Need-shared-slice-read-t15
+shared-slice-read-t15 c = search needs
 
-mul-c : tie.Need-mul-c Inv-loop μ-loop
-mul-c c = search needs
+total-requires : tie.Need-total-requires
+total-requires c κs = search needs
 
-shared-slice-copy-out-c : tie.Need-shared-slice-copy-out-c Inv-loop μ-loop
-shared-slice-copy-out-c c = search needs
+slice-aggregate-tabled-parts : tie.Need-slice-aggregate-tabled-parts
+slice-aggregate-tabled-parts c = search needs
 
-mul-t11 : tie.Need-mul-t11 Inv-loop μ-loop
-mul-t11 c = search needs
+slice-aggregate-tabled-parts-2 : tie.Need-slice-aggregate-tabled-parts-2
+slice-aggregate-tabled-parts-2 c = search needs
 
-shared-slice-read-t16 : tie.Need-shared-slice-read-t16 Inv-loop μ-loop
-shared-slice-read-t16 c = search needs
+tabled-parts-requires : tie.Need-tabled-parts-requires
+tabled-parts-requires c κs = search needs
 
-term-parts-requires : tie.Need-term-parts-requires Inv-loop μ-loop
-term-parts-requires c κs = search needs
+returns-2 : tie.Need-returns-2
+returns-2 c = search needs
 
-sum-requires : tie.Need-sum-requires Inv-loop μ-loop
-sum-requires c κs = search needs
+sub-wide : tie.Need-sub-wide
+sub-wide c = search needs
 
-sum-requires-2 : tie.Need-sum-requires-2 Inv-loop μ-loop
-sum-requires-2 c κs = search needs
+slice-aggregate-tabled-parts-3 : tie.Need-slice-aggregate-tabled-parts-3
+slice-aggregate-tabled-parts-3 c = search needs
 
-sum-requires-3 : tie.Need-sum-requires-3 Inv-loop μ-loop
-sum-requires-3 c κs = search needs
+slice-aggregate-tabled-parts-4 : tie.Need-slice-aggregate-tabled-parts-4
+slice-aggregate-tabled-parts-4 c = search needs
 
-add-k : tie.Need-add-k Inv-loop μ-loop
-add-k c = search needs
+tabled-parts-requires-2 : tie.Need-tabled-parts-requires-2
+tabled-parts-requires-2 c κs =
+    let pre = c .before .before .before .before .before .before .before .before .before .pre in
+    (pre .0, (pre .1 .0, (pre .1 .1, (⊎-elim (λ w. omega (arith, w .1, w .0 .taken)) (λ w. omega (arith, w .1)) (c .before .before .if3 .came), (omega arith, (omega arith, omega arith))))))
 
-loop-less : tie.Need-loop-less Inv-loop μ-loop
-loop-less c = search needs
-
-loop-again : tie.Need-loop-again Inv-loop μ-loop
-loop-again c =
-    let d = c .before .before .before in
-    let e = d .before .before .before in
-    let value = getD (e .before .before .before .before .args .coefficients .now) (e .before .loop .k) (pos 0) in
-    again (e .before .loop .inv) (e .loop-test .taken) (rw (toZ-ofZ w64 value record { sfits = d .before .before .c .given }) at (d .term-parts .ensures))
-    (c .before .before .sum .ensures) (c .before .sum2 .ensures) (c .sum3 .ensures)
-
-returns : tie.Need-returns Inv-loop μ-loop
-returns c = ended (c .before .loop .inv) (c .loop-test .left)
+returns-3 : tie.Need-returns-3
+returns-3 c = search needs
 
 pub sum-parts-spec : {M : Type 1} → statement M
 sum-parts-spec =
     tie.close
     (tie.spec
-    Inv-loop
-    μ-loop
-    loop-holds
-    mul-c
-    shared-slice-copy-out-c
-    mul-t11
-    shared-slice-read-t16
-    term-parts-requires
-    sum-requires
-    sum-requires-2
-    sum-requires-3
-    add-k
-    loop-less
-    loop-again
-    returns)
+    few-parts-requires
+    returns
+    shared-slice-read-t15
+    total-requires
+    slice-aggregate-tabled-parts
+    slice-aggregate-tabled-parts-2
+    tabled-parts-requires
+    returns-2
+    sub-wide
+    slice-aggregate-tabled-parts-3
+    slice-aggregate-tabled-parts-4
+    tabled-parts-requires-2
+    returns-3)
