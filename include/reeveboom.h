@@ -1,13 +1,17 @@
 /* Reeveboom, for hosts written in C (x86-64, System V calls).
  *
- * Rules for the caller of any function here:
- * - A byte slice is a pointer and a length. The pointer is never null, not even where the length is 0, and as many bytes as the length says (at most
- *   PTRDIFF_MAX) can be read there; the answer area can be written too.
- * - The answer area overlaps no other slice, and nobody else writes to any of them during the call.
- * What the bytes are is free: whatever is wrong with them, and with their number, is told by the number that comes back.
+ * Link one of two static libraries, and never both, since both have reeveboom_estimate:
+ * - libhost.a has every function that is declared here;
+ * - librouter.a has the estimate alone.
  *
- * The functions keep nothing and allocate nothing, and call nothing but memcpy and memset; so several threads may call them at once, each with its own
- * answer area.
+ * Rules for the caller of any function here:
+ * - A slice is a pointer and a length, which counts elements and not bytes. The pointer is aligned for its elements and never null, not even where the length
+ *   is 0. As many elements as the length says (at most PTRDIFF_MAX bytes) can be read there, and written too where the pointer is not to const.
+ * - An area that is written to overlaps no other slice, and nobody else touches any of them during the call.
+ * What the elements are is free, and so is every length: whatever is wrong with them is told by the number that comes back.
+ *
+ * The functions keep nothing and allocate nothing, and call nothing but memcpy, memmove and memset; so several threads may call them at once, each with areas
+ * of its own.
  */
 #ifndef REEVEBOOM_H
 #define REEVEBOOM_H
@@ -19,16 +23,123 @@
 extern "C" {
 #endif
 
-/* How long readings and tolerances must be, and the answer area at least. */
-enum { REEVEBOOM_READING_BYTES = 16, REEVEBOOM_ANSWER_BYTES = 16 };
-
-/* The refusals that an estimate can give. */
+/* How long areas must be at least (readings and tolerances: exactly). A longer area is fine: its further places stay as they are. */
 enum {
-    REEVEBOOM_ROOM = 1,     /* the answer area is too short: place 0 */
-    REEVEBOOM_SUM = 7,      /* the packed sum is at fault: the byte, or its length if it ends too soon */
-    REEVEBOOM_READING = 10, /* a length is not 16: place 0; or the first negative tolerance: 0 for a, up to 7 for h */
-    REEVEBOOM_RANGE = 11    /* the raised value is above 2^62: place 0 */
+    REEVEBOOM_TABLE_PLACES = 192,  /* a formula table, where a text is read into it */
+    REEVEBOOM_TERM_PLACES = 128,   /* patterns and coefficients, where a sum is unpacked into them */
+    REEVEBOOM_WORK_PLACES = 8192,  /* patterns and coefficients, where they are work areas */
+    REEVEBOOM_RESULT_BYTES = 2306, /* a packed result */
+    REEVEBOOM_READING_BYTES = 16,
+    REEVEBOOM_ANSWER_BYTES = 16
 };
+
+/* The refusals. Each comes with a place, which is 0 where nothing else is said. */
+enum {
+    REEVEBOOM_ROOM = 1,     /* an area that is written to is too short */
+    REEVEBOOM_SHAPE = 2,    /* a table's length is not 3 x (1 to 64); packing: the count is above 128, or above an area's length */
+    REEVEBOOM_NODE = 3,     /* a node of a table breaks its rules: the node */
+    REEVEBOOM_DEGREE = 4,   /* a degree is above 60: the node, or the pair of the list */
+    REEVEBOOM_WEIGHT = 5,   /* a weight is above 2^62: the node, or the pair; a slope: 0 */
+    REEVEBOOM_SPREAD = 6,   /* more than 128 different patterns: the node, or the pair */
+    REEVEBOOM_SUM = 7,      /* the packed sum is at fault: the byte, or its length if it ends too soon; packing: the first bad term */
+    REEVEBOOM_LIST = 8,     /* the list is at fault: the byte, or its length if it ends too soon */
+    REEVEBOOM_VARIABLE = 9, /* there is no such variable; in a list: the byte of its number */
+    REEVEBOOM_READING = 10, /* a length is not 16; or the first negative tolerance: 0 for a, up to 7 for h */
+    REEVEBOOM_RANGE = 11,   /* the raised value is above 2^62 */
+    REEVEBOOM_TEXT = 12,    /* no formula: how many bytes from the front some formula begins with; 1024 if the text is longer than that */
+    REEVEBOOM_NODES = 13    /* the text needs more than 64 nodes */
+};
+
+/* ---- What comes back.
+ *
+ * Done, a function returns the number that is said with it. Refused, the estimate returns refusal x 65536 + place, and every other function refusal x 2^32 + place.
+ * On refusal tables, patterns and coefficients that were to hold a sum, results and answers stay as they were.
+ */
+
+/* The two parts of the estimate's number: the refusal (0 when it is done), and its place. */
+static inline unsigned reeveboom_refusal(uint64_t number) { return (unsigned)(number >> 16); }
+static inline unsigned reeveboom_place(uint64_t number) { return (unsigned)(number & 65535u); }
+
+/* The same of every other function's number. Done, the place is the number itself. */
+static inline unsigned reeveboom_wide_refusal(uint64_t number) { return (unsigned)(number >> 32); }
+static inline uint32_t reeveboom_wide_place(uint64_t number) { return (uint32_t)(number & 4294967295u); }
+
+/* ---- Typed formulas and tables. */
+
+/* Reads a typed formula, as (a+b)^2-b^2, into a formula table: three numbers for each node, kind, first and second. The last node is the formula.
+ *
+ * text:  its bytes; no zero byte ends them, and no blank stands in them.
+ * table: 192 places or more. Done, the first 3 x nodes are written, and the others stay.
+ *
+ * Returns the number of nodes, 1 to 64. Refusals: ROOM, TEXT, NODES.
+ */
+uint64_t reeveboom_text(const uint8_t *text, size_t text_length,
+                        int64_t *table, size_t table_length);
+
+/* Turns a formula table into one ordered sum, packed.
+ *
+ * table:  its length is three times the number of nodes, and not that of the area that it stands in.
+ * result: 2306 bytes or more. Done, as many as the number says are written, and the rest stay.
+ * patterns, coefficients: work areas of 8192 places or more each. Whatever they hold before, after any answer but ROOM their first 8192 places are zero; their
+ *         further places stay, and after ROOM all stay.
+ *
+ * Returns the number of bytes, 1 to 2306. Refusals: ROOM, SHAPE, then for the nodes from the first on NODE, DEGREE, WEIGHT, SPREAD.
+ */
+uint64_t reeveboom_simplify(const int64_t *table, size_t table_length,
+                            uint8_t *result, size_t result_length,
+                            uint64_t *patterns, size_t patterns_length,
+                            int64_t *coefficients, size_t coefficients_length);
+
+/* ---- Packed sums. */
+
+/* Unpacks a packed sum. The pattern of a term has the power of a in its highest byte, and that of h in its lowest.
+ *
+ * patterns, coefficients: 128 places or more each. Done, as many as the number says are written in both, and the others stay.
+ *
+ * Returns the number of terms, 0 to 128. Refusals: ROOM, SUM.
+ */
+uint64_t reeveboom_unpack(const uint8_t *sum, size_t sum_length,
+                          uint64_t *patterns, size_t patterns_length,
+                          int64_t *coefficients, size_t coefficients_length);
+
+/* Packs the first `count` terms of two areas, which have to stand in order.
+ *
+ * result: 2306 bytes or more. Done, as many as the number says are written, and the rest stay.
+ *
+ * Returns the number of bytes, 1 to 2306. Refusals: ROOM (of the result), SHAPE, SUM.
+ */
+uint64_t reeveboom_pack(uint64_t count,
+                        const uint64_t *patterns, size_t patterns_length,
+                        const int64_t *coefficients, size_t coefficients_length,
+                        uint8_t *result, size_t result_length);
+
+/* The slope of a packed sum by one variable, packed.
+ *
+ * variable: 0 for a, up to 7 for h.
+ * result:   2306 bytes or more. Done, as many as the number says are written, and the rest stay.
+ *
+ * Returns the number of bytes, 1 to 2306. Refusals: ROOM, SUM, VARIABLE, WEIGHT, SPREAD (which is never met).
+ */
+uint64_t reeveboom_slope(const uint8_t *sum, size_t sum_length,
+                         uint64_t variable,
+                         uint8_t *result, size_t result_length);
+
+/* Puts sums for variables of a packed sum, one after the other.
+ *
+ * list:   the number of pairs, 0 to 8, and for each pair the variable's number and a packed sum, which is put for it. The places of LIST and VARIABLE count from
+ *         the list's first byte, those of SUM from the sum's.
+ * result: 2306 bytes or more. Done, as many as the number says are written, and the rest stay.
+ * patterns, coefficients: work areas of 8192 places or more each, as those of reeveboom_simplify.
+ *
+ * Returns the number of bytes, 1 to 2306. Refusals: ROOM, SUM, then LIST or VARIABLE, then for the pairs from the first on DEGREE, WEIGHT, SPREAD.
+ */
+uint64_t reeveboom_substitute(const uint8_t *sum, size_t sum_length,
+                              const uint8_t *list, size_t list_length,
+                              uint8_t *result, size_t result_length,
+                              uint64_t *patterns, size_t patterns_length,
+                              int64_t *coefficients, size_t coefficients_length);
+
+/* ---- The estimate. */
 
 /* The value of a packed sum at the readings, and its margin: wherever each true number is within its tolerance of its reading, the true value is
  * within the margin of the estimate.
@@ -42,16 +153,12 @@ enum {
  * answer:     16 bytes or more. Done, the first 16 become the estimate and then the margin, eight bytes each, two's complement, low byte first,
  *             and the rest stay. On refusal all stay.
  *
- * Returns 16 when it is done; otherwise refusal x 65536 + place.
+ * Returns 16. Refusals, as refusal x 65536 + place: ROOM, SUM, READING, RANGE.
  */
 uint64_t reeveboom_estimate(const uint8_t *sum, size_t sum_length,
                             const uint8_t *readings, size_t readings_length,
                             const uint8_t *tolerances, size_t tolerances_length,
                             uint8_t *answer, size_t answer_length);
-
-/* The two parts of the number that came back: the refusal (0 when it is done), and its place. */
-static inline unsigned reeveboom_refusal(uint64_t number) { return (unsigned)(number >> 16); }
-static inline unsigned reeveboom_place(uint64_t number) { return (unsigned)(number & 65535u); }
 
 #ifdef __cplusplus
 }

@@ -1,0 +1,41 @@
+-- Each exported function's contract leaves one outcome, as its caller sees it: the host's number, and every place of every lent area.
+use mathlib.Core.Path.{_≡_, ap}
+use mathlib.Core.List.{List}
+use Prim.Native.Nat.{ℕ}
+use lib.IntN.{ℤ}
+use denote.Ref.{now}
+use Rattle.answers.proofs.Outcomes.{OneLent, same}
+use Rattle.packed.specs.Result.{Areas}
+use Rattle.host.proofs.reeveboom_text.Reads as text
+use Rattle.host.proofs.reeveboom_simplify.Reads as simplify
+use Rattle.host.proofs.reeveboom_unpack.Reads as unpack
+use Rattle.host.proofs.reeveboom_pack.Reads as pack
+use Rattle.host.proofs.reeveboom_slope.Reads as slope
+use Rattle.host.proofs.reeveboom_substitute.Reads as substitute
+use Rattle.host.proofs.reeveboom_estimate.Reads as estimate
+
+-- two numbers with their areas are the same
+number-one : {A : Type 0} {n n' : ℕ} {x x' : A} → _≡_ {A = ℕ × A} (n, x) (n', x') → (n ≡ n') × (x ≡ x')
+number-one {A} e = (ap (λ (p : ℕ × A). p .0) e, ap (λ (p : ℕ × A). p .1) e)
+
+pub reeveboom-text-one : OneLent text.Learnt (λ k e. now (e .1 .0))
+reeveboom-text-one k a r r' e e' h h' = number-one (same h h')
+
+-- the result area is the second argument here, and the work areas come after it
+pub reeveboom-simplify-one : OneLent simplify.Learnt {L = Areas} (λ k e. (now (e .1 .1 .0), now (e .1 .1 .1 .0), now (e .1 .0)))
+reeveboom-simplify-one k a r r' e e' h h' = number-one (same h h')
+
+pub reeveboom-unpack-one : OneLent unpack.Learnt {L = List ℕ × List ℤ} (λ k e. (now (e .1 .0), now (e .1 .1 .0)))
+reeveboom-unpack-one k a r r' e e' h h' = number-one (same h h')
+
+pub reeveboom-pack-one : OneLent pack.Learnt (λ k e. now (e .1 .1 .1 .0))
+reeveboom-pack-one k a r r' e e' h h' = number-one (same h h')
+
+pub reeveboom-slope-one : OneLent slope.Learnt (λ k e. now (e .1 .1 .0))
+reeveboom-slope-one k a r r' e e' h h' = number-one (same h h')
+
+pub reeveboom-substitute-one : OneLent substitute.Learnt {L = Areas} (λ k e. (now (e .1 .1 .1 .0), now (e .1 .1 .1 .1 .0), now (e .1 .1 .0)))
+reeveboom-substitute-one k a r r' e e' h h' = number-one (same h h')
+
+pub reeveboom-estimate-one : OneLent estimate.Learnt (λ k e. now (e .1 .1 .1 .0))
+reeveboom-estimate-one k a r r' e e' h h' = number-one (same h h')

@@ -1,0 +1,6 @@
+pub mod Values
+pub mod Holding
+pub mod Reading
+pub mod Hexing
+pub mod Shown
+pub mod Gathering

@@ -1,0 +1,149 @@
+-- What an operation says that it wrote stands within its area.
+use mathlib.Core.Path.{_≡_, refl, sym, ap, _∙_}
+use mathlib.Core.Bool.{Bool, true, false, _&&_}
+use mathlib.Core.List.{List, []}
+use Prim.Native.Nat.{ℕ, _*_, _≤_}
+use native.Mathlib.Omega.{arith}
+use lib.Dec.{eqb, leb}
+use lib.IntN.{ℤ, pos}
+use lib.ListN.{length, drop, take, length-append, length-map, length-drop}
+use borrow.Author.Tests.{eqb-true, leb-true}
+use Rattle.algebra.specs.Limits.{variables, mostTerms, workPlaces}
+use Rattle.algebra.specs.Sum.{Sum}
+use Rattle.algebra.specs.Held.{wordsOf, coefficientsOf, firstTerms}
+use Rattle.answers.specs.Refusals.{ROOM, SHAPE, SUM}
+use Rattle.answers.specs.Answers.{Told, Told.done, Told.refused, Outcome, outcome, check}
+use Rattle.answers.specs.Areas.{written, cleared}
+use Rattle.answers.specs.Host.{hosted}
+use Rattle.answers.specs.Judge.{Judged, Judged.good, Judged.fails}
+use Rattle.packed.specs.Packed.{packed, mostBytes}
+use Rattle.packed.specs.ReadSum.{readWhole}
+use Rattle.packed.specs.Whole.{judged}
+use Rattle.packed.specs.Result.{Areas, heldInto, packedInto, beside, worked}
+use Rattle.packed.specs.Unpack.{unpack}
+use Rattle.packed.specs.Pack.{goodTerms, pack}
+use Rattle.formula.specs.Simplify.{tableSum, simplify}
+use Rattle.formula.proofs.Passing.{table-length}
+use Rattle.change.specs.Slope.{slope}
+use Rattle.change.specs.Substitute.{judgeSubstitute, substitute}
+use Rattle.router.specs.Estimate.{Estimate, judgeEstimate, answerBytes, answerOf, answerInto, estimate, hostUnit}
+use Rattle.nodes.specs.Node.{tableOf}
+use Rattle.text.specs.Tree.{Tree, nodesOf}
+use Rattle.text.specs.Limits.{tablePlaces}
+use Rattle.text.specs.Text.{judgeText, tableInto, readFormula}
+use Rattle.text.proofs.Trees.{nodes-length}
+use Rattle.replay.specs.Telling.{toldAs, hostTold, Shows}
+use Rattle.replay.specs.declared.telling.Told as code
+use Rattle.replay.specs.declared.telling.Told.the-variants.{Done}
+
+-- as many places as the number returned
+abbrev pub itself : ℕ → ℕ
+itself n = n
+
+pub shows-done : {places : ℕ → ℕ} {most n : ℕ} {t : code.Told} → Shows places most (toldAs t) → t ≡ Done n → places n ≤ most
+shows-done h e = rw e at (h .inside)
+
+pub shows-as : {places : ℕ → ℕ} {most : ℕ} {t u : Told} → t ≡ u → Shows places most u → Shows places most t
+shows-as e h = rw e h
+
+-- ---- Two kinds of outcomes.
+
+shows-refused : {A : Type 0} {places : ℕ → ℕ} {most refusal place : ℕ} {t : Told} {x y : A} → outcome t x ≡ outcome (refused refusal place) y → Shows places most t
+shows-refused {A} e = shows-as (ap (λ (o : Outcome A). o .answer) e) (record { inside = tt })
+
+-- values that were written stand within the area
+within : {A : Type 0} (values area : List A) {x : List A} {n : ℕ} → x ≡ written values area → length values ≡ n → n ≤ length x
+within values area e many = omega (arith, ap length e, length-append values (drop (length values) area), many)
+
+shows-written : {A : Type 0} {places : ℕ → ℕ} (values area : List A) {t : Told} {x : List A} {n : ℕ} → outcome t x ≡ outcome (done n) (written values area)
+    → length values ≡ places n → Shows places (length x) t
+shows-written {A} values area e many =
+    shows-as (ap (λ (o : Outcome (List A)). o .answer) e) (record { inside = within values area (ap (λ (o : Outcome (List A)). o .areas) e) many })
+
+-- ---- The operations.
+
+module _ {A : Type 0} {places : ℕ → ℕ} {most : ℕ} {t : Told} {x : A} where
+  checked : (b : Bool) (refusal place : ℕ) (y : A) (rest : Outcome A) → (outcome t x ≡ rest → Shows places most t) → outcome t x ≡ check b refusal place y rest → Shows places most t
+  checked true refusal place y rest f e = f e
+  checked false refusal place y rest f e = shows-refused e
+
+packed-shows : (j : Judged Sum) (area : List ℕ) {t : Told} {x : List ℕ} → outcome t x ≡ packedInto j area → Shows itself (length x) t
+unfolding packedInto
+packed-shows (good s) area e = shows-written (packed s) area e refl
+packed-shows (fails refusal place) area e = shows-refused e
+
+worked-shows : (j : Judged Sum) (ws : List ℕ) (cs : List ℤ) (area : List ℕ) {t : Told} {ws' : List ℕ} {cs' : List ℤ} {x : List ℕ}
+    → outcome t (ws', cs', x) ≡ worked j ws cs area → Shows itself (length x) t
+unfolding worked
+worked-shows j ws cs area {t} {ws'} {cs'} {x} e = go (leb workPlaces (length ws) && (leb workPlaces (length cs) && leb (mostBytes variables) (length area))) e
+  where
+    only : Outcome Areas → Outcome (List ℕ)
+    only o = outcome (o .answer) (o .areas .2)
+
+    go : (b : Bool) → outcome t (ws', cs', x) ≡ check b ROOM 0 (ws, cs, area) (beside (cleared 0 workPlaces ws) (cleared (pos 0) workPlaces cs) (packedInto j area))
+        → Shows itself (length x) t
+    go true f = packed-shows j area (ap only f)
+    go false f = shows-refused f
+
+pub simplify-shows : (table : List ℤ) (ws : List ℕ) (cs : List ℤ) (area : List ℕ) {t : Told} {ws' : List ℕ} {cs' : List ℤ} {x : List ℕ}
+    → outcome t (ws', cs', x) ≡ simplify table ws cs area → Shows itself (length x) t
+unfolding simplify
+simplify-shows table ws cs area e = worked-shows (tableSum table) ws cs area e
+
+pub substitute-shows : (bytes list ws : List ℕ) (cs : List ℤ) (area : List ℕ) {t : Told} {ws' : List ℕ} {cs' : List ℤ} {x : List ℕ}
+    → outcome t (ws', cs', x) ≡ substitute bytes list ws cs area → Shows itself (length x) t
+unfolding substitute
+substitute-shows bytes list ws cs area e = worked-shows (judgeSubstitute bytes list) ws cs area e
+
+pub slope-shows : (bytes : List ℕ) (v : ℕ) (area : List ℕ) {t : Told} {x : List ℕ} → outcome t x ≡ slope bytes v area → Shows itself (length x) t
+unfolding slope
+slope-shows bytes v area e = checked (leb (mostBytes variables) (length area)) ROOM 0 area _ (λ f. packed-shows _ area f) e
+
+pub pack-shows : (count : ℕ) (ws : List ℕ) (cs : List ℤ) (area : List ℕ) {t : Told} {x : List ℕ} → outcome t x ≡ pack count ws cs area → Shows itself (length x) t
+unfolding pack
+pack-shows count ws cs area e =
+    let bytes = packed (firstTerms count ws cs) in
+    let found = goodTerms [] (take count ws) (take count cs) in
+    checked (leb (mostBytes variables) (length area)) ROOM 0 area _
+    (λ f. checked (leb count mostTerms && (leb count (length ws) && leb count (length cs))) SHAPE 0 area _
+    (λ g. checked (eqb found count) SUM found area _
+    (λ h. shows-written bytes area h refl) g) f) e
+
+pub unpack-shows : (bytes ws : List ℕ) (cs : List ℤ) {t : Told} {ws' : List ℕ} {cs' : List ℤ} → outcome t (ws', cs') ≡ unpack bytes ws cs
+    → Shows itself (length ws') t × Shows itself (length cs') t
+unfolding unpack heldInto
+unpack-shows bytes ws cs {t} {ws'} {cs'} e = go (leb mostTerms (length ws) && leb mostTerms (length cs)) (judged SUM (readWhole variables bytes)) e
+  where
+    words : Outcome (List ℕ × List ℤ) → Outcome (List ℕ)
+    words o = outcome (o .answer) (o .areas .0)
+
+    coefficients : Outcome (List ℕ × List ℤ) → Outcome (List ℤ)
+    coefficients o = outcome (o .answer) (o .areas .1)
+
+    go : (b : Bool) (j : Judged Sum) → outcome t (ws', cs') ≡ check b ROOM 0 (ws, cs) (heldInto j ws cs) → Shows itself (length ws') t × Shows itself (length cs') t
+    go true (good s) f = (shows-written (wordsOf s) ws (ap words f) (length-map s _), shows-written (coefficientsOf s) cs (ap coefficients f) (length-map s _))
+    go true (fails refusal place) f = (shows-refused f, shows-refused f)
+    go false j f = (shows-refused f, shows-refused f)
+
+pub text-shows : (text : List ℕ) (table : List ℤ) {t : Told} {x : List ℤ} → outcome t x ≡ readFormula text table → Shows (λ n. 3 * n) (length x) t
+unfolding readFormula tableInto
+text-shows text table {t} {x} e = go (leb tablePlaces (length table)) (judgeText text) e
+  where
+    go : (b : Bool) (j : Judged Tree) → outcome t x ≡ check b ROOM 0 table (tableInto j table) → Shows (λ n. 3 * n) (length x) t
+    go true (good tree) f =
+        let nodes = nodesOf 0 tree in
+        shows-written (tableOf nodes) table f (table-length nodes ∙ ap (λ (k : ℕ). 3 * k) (nodes-length 0 tree))
+    go true (fails refusal place) f = shows-refused f
+    go false j f = shows-refused f
+
+-- a C host's number is 16 only if there was room
+pub estimate-shows : (bytes readings tolerances area : List ℕ) {number : ℕ} {x : List ℕ} → (number, x) ≡ hosted hostUnit (estimate bytes readings tolerances area)
+    → length x ≡ length area → Shows itself (length x) (hostTold number)
+unfolding estimate
+estimate-shows bytes readings tolerances area {number} {x} e same = go (leb answerBytes (length area)) refl e (eqb number answerBytes) refl
+  where
+    go : (b : Bool) → leb answerBytes (length area) ≡ b → (number, x) ≡ hosted hostUnit (check b ROOM 0 area (answerInto (judgeEstimate bytes readings tolerances) area))
+        → (d : Bool) → eqb number answerBytes ≡ d → Shows itself (length x) (hostTold number)
+    go b room f false is = rw is (record { inside = tt })
+    go true room f true is = rw is (record { inside = omega (arith, leb-true answerBytes (length area) room, same) })
+    go false room f true is = absurd (omega (arith, ap (λ (p : ℕ × List ℕ). p .0) f, eqb-true number answerBytes is))

@@ -1,0 +1,6 @@
+pub mod Limits
+pub mod Hex
+pub mod Fields
+pub mod Filling
+pub mod Telling
+pub mod Lent

@@ -1,0 +1,93 @@
+// Cases of typed formulas and of tables.
+use crate::MOST_WORDS;
+use crate::fields;
+use crate::fields::Field;
+use crate::fields::Lengths;
+use crate::filling;
+use crate::lines;
+use crate::telling;
+ghost use Prim.Native.Nat.{_≤_};
+ghost use lib.ListN.{length};
+ghost use Rattle.replay.specs.Limits.{mostBytes, mostWords, mostAnswer};
+
+fn read_formula(text: &[u8], table: &mut [i64], out: &mut [u8]) -> usize
+    requires { ⌜ length (now table) ≤ mostWords ⌝ }
+    requires { ⌜ mostAnswer ≤ length (now out) ⌝ }
+    ensures { λ r. ⌜ r ≤ mostAnswer ⌝ }
+{
+    filling::fill_signed(table);
+    let told = telling::answered(text::read_formula(text, table));
+    telling::tell_table(told, table, out)
+}
+
+// text BYTES LEN
+pub(crate) fn text(
+    line: &[u8],
+    at: usize,
+    given: &mut [u8],
+    table: &mut [i64],
+    out: &mut [u8],
+) -> usize
+    requires { ⌜ mostWords ≤ length (now table) ⌝ }
+    requires { ⌜ mostAnswer ≤ length (now out) ⌝ }
+    ensures { λ r. ⌜ r ≤ mostAnswer ⌝ }
+{
+    let Field::Got(end, next) = fields::bytes(line, at, given, 0) else {
+        return lines::unknown(out);
+    };
+    let Field::Got(length, _) = fields::last_number(line, next, MOST_WORDS) else {
+        return lines::unknown(out);
+    };
+    read_formula(&given[..end], &mut table[..length], out)
+}
+
+fn simplify_table(
+    table: &[i64],
+    result: &mut [u8],
+    patterns: &mut [u64],
+    coefficients: &mut [i64],
+    out: &mut [u8],
+) -> usize
+    requires { ⌜ length (now result) ≤ mostBytes ⌝ }
+    requires { ⌜ length (now patterns) ≤ mostWords ⌝ }
+    requires { ⌜ length (now coefficients) ≤ mostWords ⌝ }
+    requires { ⌜ mostAnswer ≤ length (now out) ⌝ }
+    ensures { λ r. ⌜ r ≤ mostAnswer ⌝ }
+{
+    filling::fill_bytes(result);
+    filling::fill_words(patterns);
+    filling::fill_signed(coefficients);
+    let told = telling::answered(formula::simplify(table, patterns, coefficients, result));
+    telling::tell_worked(told, result, patterns, coefficients, out)
+}
+
+// simplify WORDS LEN LEN LEN
+pub(crate) fn simplify(
+    line: &[u8],
+    at: usize,
+    table: &mut [i64],
+    result: &mut [u8],
+    patterns: &mut [u64],
+    coefficients: &mut [i64],
+    out: &mut [u8],
+) -> usize
+    requires { ⌜ mostBytes ≤ length (now result) ⌝ }
+    requires { ⌜ mostWords ≤ length (now patterns) ⌝ }
+    requires { ⌜ mostWords ≤ length (now coefficients) ⌝ }
+    requires { ⌜ mostAnswer ≤ length (now out) ⌝ }
+    ensures { λ r. ⌜ r ≤ mostAnswer ⌝ }
+{
+    let Field::Got(count, next) = fields::signed_words(line, at, table) else {
+        return lines::unknown(out);
+    };
+    let Lengths::Are(r, p, c) = fields::last_lengths(line, next) else {
+        return lines::unknown(out);
+    };
+    simplify_table(
+        &table[..count],
+        &mut result[..r],
+        &mut patterns[..p],
+        &mut coefficients[..c],
+        out,
+    )
+}

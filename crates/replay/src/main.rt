@@ -1,0 +1,218 @@
+// Reads cases from standard input, one on each line, runs each on the library, and writes a line of what came back.
+use libc::STDIN_FILENO;
+use libc::STDOUT_FILENO;
+ghost use Prim.Native.Nat.{_+_, _*_, _≤_};
+ghost use lib.ListN.{length};
+ghost use Rattle.replay.specs.Limits.{mostAnswer};
+ghost use Rattle.replay.specs.Lent.{Lent, Gathers};
+
+mod cases;
+mod changes;
+mod digits;
+mod estimates;
+mod fields;
+mod filling;
+mod formulas;
+mod lines;
+mod packing;
+mod telling;
+
+// A line of more bytes than this is no case.
+const LONGEST_LINE: usize = 65536;
+
+// How many places an area that is lent may have: of bytes, and of words.
+const MOST_BYTES: usize = 40000;
+
+const MOST_WORDS: usize = 9000;
+
+// The inputs of a line, as bytes: two digits for each.
+const MOST_GIVEN: usize = LONGEST_LINE / 2;
+
+// An answer with two areas of words written in full, and what stands beside them.
+const MOST_ANSWER: usize = 2 * 16 * MOST_WORDS + 128;
+
+// Answers are gathered before they are written.
+const MOST_GATHERED: usize = 2 * MOST_ANSWER;
+
+// How far it has come: the bytes of the line that has begun, and of the answers that are not written yet.
+struct Progress {
+    line: usize,
+    gathered: usize,
+}
+
+// One more byte of a line. A line that is too long fills the area, and the rest of it is dropped.
+fn add_byte(line: &mut [u8], held: usize, byte: u8) -> usize
+    requires { ⌜ held ≤ length (now line) ⌝ }
+    ensures { λ r. ⌜ r ≤ length (now (line .exit)) ⌝ }
+{
+    if held < line.len() {
+        line[held] = byte;
+        return held + 1;
+    }
+    held
+}
+
+// Writes what is gathered when another answer might not find room.
+fn make_room(out: &[u8], gathered: usize) -> usize
+    requires { ⌜ 2 * mostAnswer ≤ length (now out) ⌝ }
+    requires { ⌜ gathered ≤ length (now out) ⌝ }
+    ensures { λ r. ⌜ r + mostAnswer ≤ length (now (out .entry)) ⌝ }
+{
+    if gathered > MOST_ANSWER {
+        io::write_all(STDOUT_FILENO, &out[..gathered]);
+        return 0;
+    }
+    gathered
+}
+
+// A piece of the input, byte by byte: at the end of each line its answer is gathered.
+fn take_piece(
+    piece: &[u8],
+    line: &mut [u8],
+    given: &mut [u8],
+    table: &mut [i64],
+    patterns: &mut [u64],
+    coefficients: &mut [i64],
+    result: &mut [u8],
+    out: &mut [u8],
+    progress: Progress,
+) -> Progress
+    requires { ⌜ Lent (now table) (now patterns) (now coefficients) (now result) ⌝ }
+    requires { ⌜ 2 * mostAnswer ≤ length (now out) ⌝ }
+    requires { ⌜ Gathers (now line) (progress .line) (now out) (progress .gathered) ⌝ }
+    ensures { λ r. ⌜ Gathers (now (line .exit)) (r .line) (now (out .exit)) (r .gathered) ⌝ }
+{
+    let mut held = progress.line;
+    let mut gathered = progress.gathered;
+    let mut i = 0;
+    while i < piece.len() {
+        if piece[i] == b'\n' {
+            let end = cases::answer(
+                &line[..held],
+                given,
+                table,
+                patterns,
+                coefficients,
+                result,
+                &mut out[gathered..],
+            );
+            gathered = make_room(out, gathered + end);
+            held = 0;
+            i += 1;
+        } else {
+            held = add_byte(line, held, piece[i]);
+            i += 1;
+        }
+    }
+    Progress {
+        line: held,
+        gathered: gathered,
+    }
+}
+
+// The input to its end. The pieces are counted down from more than there can be, so that this ends.
+fn replay(
+    piece: &mut [u8],
+    line: &mut [u8],
+    given: &mut [u8],
+    table: &mut [i64],
+    patterns: &mut [u64],
+    coefficients: &mut [i64],
+    result: &mut [u8],
+    out: &mut [u8],
+) -> Progress
+    requires { ⌜ Lent (now table) (now patterns) (now coefficients) (now result) ⌝ }
+    requires { ⌜ 2 * mostAnswer ≤ length (now out) ⌝ }
+    ensures { λ r. ⌜ Gathers (now (line .exit)) (r .line) (now (out .exit)) (r .gathered) ⌝ }
+{
+    let mut progress = Progress {
+        line: 0,
+        gathered: 0,
+    };
+    let mut left: u64 = 18446744073709551615;
+    while left > 0 {
+        let length = io::count(libc::read(STDIN_FILENO, piece), piece);
+        if length == 0 {
+            return progress;
+        }
+        progress = take_piece(
+            &piece[..length],
+            line,
+            given,
+            table,
+            patterns,
+            coefficients,
+            result,
+            out,
+            progress,
+        );
+        left -= 1;
+    }
+    progress
+}
+
+// A last line without a newline is ended by one.
+fn finish(
+    line: &mut [u8],
+    given: &mut [u8],
+    table: &mut [i64],
+    patterns: &mut [u64],
+    coefficients: &mut [i64],
+    result: &mut [u8],
+    out: &mut [u8],
+    progress: Progress,
+)
+    requires { ⌜ Lent (now table) (now patterns) (now coefficients) (now result) ⌝ }
+    requires { ⌜ 2 * mostAnswer ≤ length (now out) ⌝ }
+    requires { ⌜ Gathers (now line) (progress .line) (now out) (progress .gathered) ⌝ }
+{
+    if progress.line > 0 {
+        let ended = take_piece(
+            b"\n",
+            line,
+            given,
+            table,
+            patterns,
+            coefficients,
+            result,
+            out,
+            progress,
+        );
+        let all = ended.gathered;
+        io::write_all(STDOUT_FILENO, &out[..all]);
+        return;
+    }
+    let gathered = progress.gathered;
+    io::write_all(STDOUT_FILENO, &out[..gathered]);
+}
+
+fn main() {
+    let mut piece = io::large_buffer();
+    let mut line = [0u8; LONGEST_LINE + 1];
+    let mut given = [0u8; MOST_GIVEN];
+    let mut table = [0i64; MOST_WORDS];
+    let mut patterns = [0u64; MOST_WORDS];
+    let mut coefficients = [0i64; MOST_WORDS];
+    let mut result = [0u8; MOST_BYTES];
+    let mut out = [0u8; MOST_GATHERED];
+    let progress = replay(
+        &mut piece,
+        &mut line,
+        &mut given,
+        &mut table,
+        &mut patterns,
+        &mut coefficients,
+        &mut result,
+        &mut out,
+    );
+    finish(
+        &mut line,
+        &mut given,
+        &mut table,
+        &mut patterns,
+        &mut coefficients,
+        &mut result,
+        &mut out,
+        progress,
+    );
+}

@@ -1,0 +1,165 @@
+//! Cases of estimate: readings and tolerances.
+
+use super::chance::Chance;
+use super::lengths;
+use super::random_sums::{in_order, pattern_of_degree, sum_from, Plan};
+use super::unpacks::{damaged_packed, some_packed};
+use crate::lines::Case;
+use crate::packed::packed;
+use crate::sums::{Pattern, Sum, Term};
+
+struct Numbers {
+    readings: [i16; 8],
+    tolerances: [i16; 8],
+}
+
+fn bytes_of(numbers: &[i16]) -> Vec<u8> {
+    numbers.iter().flat_map(|number| number.to_le_bytes()).collect()
+}
+
+pub fn estimate_case(chance: &mut Chance) -> Case {
+    let (sum, numbers) = match chance.below(100) {
+        0..=29 => (low_sum(chance), any_numbers(chance)),
+        30..=44 => (some_packed(chance), low_numbers(chance)),
+        45..=54 => (damaged_packed(chance), any_numbers(chance)),
+        55..=69 => range_edge(chance),
+        70..=81 => zero_factor(chance),
+        82..=85 => (some_packed(chance), any_numbers(chance)),
+        _ => return reading_fault(chance),
+    };
+    let (readings, tolerances) = (bytes_of(&numbers.readings), bytes_of(&numbers.tolerances));
+    Case::Estimate { sum, readings, tolerances, answer: lengths::answer(chance) }
+}
+
+/// Low degree, so that large readings stay in range.
+fn low_sum(chance: &mut Chance) -> Vec<u8> {
+    let plan = Plan { terms: chance.between(0, 8), degree: chance.between(0, 4), letters: chance.between(1, 8) };
+    packed(&sum_from(chance, plan))
+}
+
+fn any_numbers(chance: &mut Chance) -> Numbers {
+    let mut numbers = low_numbers(chance);
+    let size = chance.between(1, 15);
+    for index in 0..8 {
+        numbers.readings[index] = match chance.below(12) {
+            0 => 0,
+            1 => i16::MIN,
+            2 => i16::MAX,
+            _ => (chance.word() as i16) >> (15 - size),
+        };
+        numbers.tolerances[index] = match chance.below(8) {
+            0..=2 => 0,
+            3 => i16::MAX,
+            _ => ((chance.word() as i16) >> (15 - size)) & i16::MAX,
+        };
+    }
+    numbers
+}
+
+/// So small that high powers stay in range.
+fn low_numbers(chance: &mut Chance) -> Numbers {
+    let most = chance.between(0, 3);
+    Numbers {
+        readings: std::array::from_fn(|_| chance.between(0, 2 * most) as i16 - most as i16),
+        tolerances: std::array::from_fn(|_| chance.below(most + 1) as i16),
+    }
+}
+
+/// Raised readings that are powers of two, and one term that makes 2^62 exactly; a second one makes it 2^62 + 1.
+fn range_edge(chance: &mut Chance) -> (Vec<u8>, Numbers) {
+    let letters = chance.letters();
+    let mut numbers = low_numbers(chance);
+    let mut left = 62u32;
+    let mut pattern = Pattern::empty();
+    for &letter in &letters[..chance.between(1, 3)] {
+        let bits = chance.between(0, 15) as u32;
+        let raised = 1i32 << bits;
+        let tolerance = chance.pick(&[0, 1.min(raised), raised / 2, chance_part(raised)]);
+        // |reading| may be 32,768 only as a negative reading.
+        let negative = chance.one_in(2) || raised - tolerance > 32_767;
+        let tolerance = tolerance.min(32_767);
+        let reading = raised - tolerance;
+        numbers.readings[letter] = if negative { -reading } else { reading } as i16;
+        numbers.tolerances[letter] = tolerance as i16;
+        let most = (left / bits.max(1)).min(15);
+        let power = chance.between(0, most as usize) as u32;
+        left -= power * bits;
+        pattern = pattern.with(letter, power as u8);
+    }
+    (packed(&edge_sum(chance, pattern, left)), numbers)
+}
+
+/// A sum that is 2^62 or 2^62 + 1 where the pattern is worth 2^(62 - left). The constant is worth itself.
+fn edge_sum(chance: &mut Chance, pattern: Pattern, left: u32) -> Sum {
+    let over = chance.below(2) as i64;
+    let alone = pattern.degree() == 0 || left == 62;
+    let (first, constant) = match chance.below(2) {
+        _ if alone => (1 << left, 0),
+        0 if left > 0 => ((1 << left) - 1, (1i64 << (62 - left)) + over),
+        _ => (1i64 << left, over),
+    };
+    let mut terms = vec![Term { coefficient: chance.signed(first), pattern }];
+    if constant > 0 {
+        terms.push(Term { coefficient: chance.signed(constant), pattern: Pattern::empty() });
+    }
+    in_order(terms)
+}
+
+/// Some part of a raised reading, for its tolerance.
+fn chance_part(raised: i32) -> i32 {
+    raised * 3 / 4
+}
+
+/// A raised reading of 0 beside factors that are far out of range on their own.
+fn zero_factor(chance: &mut Chance) -> (Vec<u8>, Numbers) {
+    let letters = chance.letters();
+    let mut numbers = any_numbers(chance);
+    let zero = letters[0];
+    numbers.readings[zero] = 0;
+    numbers.tolerances[zero] = 0;
+    let mut terms = Vec::new();
+    for _ in 0..chance.between(1, 4) {
+        let degree = chance.between(1, 59);
+        let power = chance.between(1, 60 - degree) as u8;
+        let pattern = pattern_of_degree(chance, degree, 8).with(zero, power);
+        let size = 1 << chance.below(58);
+        terms.push(Term { coefficient: chance.signed(size), pattern });
+    }
+    // A term that counts, so that the answer is not always 0.
+    terms.push(Term { coefficient: chance.signed(7), pattern: Pattern::letter(letters[1]) });
+    if chance.one_in(6) {
+        // The zero only looks like one: a tolerance of 1, or the term does not hold the letter.
+        numbers.tolerances[zero] = chance.between(0, 1) as i16;
+        let other = pattern_of_degree(chance, 20, 8).with(zero, 0);
+        terms.push(Term { coefficient: 1, pattern: other });
+    }
+    let mut sum: Sum = in_order(terms);
+    sum.terms.dedup_by_key(|term| term.pattern);
+    (packed(&sum), numbers)
+}
+
+fn reading_fault(chance: &mut Chance) -> Case {
+    let sum = if chance.one_in(8) { damaged_packed(chance) } else { low_sum(chance) };
+    let mut numbers = any_numbers(chance);
+    if chance.percent(70) {
+        let index = chance.below(8);
+        numbers.tolerances[index] = chance.pick(&[-1, -1, i16::MIN, -256, -32_767]);
+        // Later ones do not matter.
+        if index < 7 && chance.one_in(2) {
+            numbers.tolerances[chance.between(index, 7)] = -1;
+        }
+    }
+    let mut readings = bytes_of(&numbers.readings);
+    let mut tolerances = bytes_of(&numbers.tolerances);
+    let lengths = [0, 1, 14, 15, 15, 17, 17, 18, 32];
+    match chance.below(6) {
+        0 => readings.resize(chance.pick(&lengths), 0),
+        1 => tolerances.resize(chance.pick(&lengths), 0xff),
+        2 => {
+            readings.resize(chance.pick(&lengths), 1);
+            tolerances.resize(chance.pick(&lengths), 1);
+        }
+        _ => {}
+    }
+    Case::Estimate { sum, readings, tolerances, answer: lengths::answer(chance) }
+}

@@ -1,0 +1,193 @@
+//! READINGS B, D and M: tables, slopes, substitutions and estimates.
+
+use super::{estimate_case, list_of, packed_of, typed_list, Statements};
+use crate::lines::Case;
+use crate::refusals::{DEGREE, LIST, NODE, RANGE, READING, SHAPE, SPREAD, SUM, VARIABLE, WEIGHT};
+
+pub fn state(all: &mut Statements) {
+    tables(all);
+    formal(all);
+    slopes(all);
+    substitutions(all);
+    lists(all);
+    spreads(all);
+    estimates(all);
+    readings(all);
+}
+
+fn tables(all: &mut Statements) {
+    let why = "READINGS A1, A3: SHAPE, work areas zero";
+    all.table_refused(why, &[], SHAPE, 0);
+    all.table_refused(why, &[1, 0], SHAPE, 0);
+    all.table_refused(why, &[1, 0, 0, 1], SHAPE, 0);
+    all.table_refused(why, &[1, 0, 0].repeat(65), SHAPE, 0);
+    all.table_is("64 nodes", &[1, 0, 0].repeat(64), "a");
+    let why = "READINGS B1: node by node";
+    let high = [1, 0, 0, 4, 0, 60, 3, 0, 1];
+    all.table_refused(why, &[&high[..], &[9, 9, 9]].concat(), DEGREE, 2);
+    all.table_refused(why, &[&[9, 0, 0][..], &high].concat(), NODE, 0);
+    let why = "READINGS B2: exponent and variable of a table";
+    all.table_refused(why, &[1, 0, 0, 4, 0, 61], NODE, 1);
+    all.table_refused(why, &[1, 0, 0, 4, 0, -1], NODE, 1);
+    all.table_refused(why, &[1, 8, 0], NODE, 0);
+    all.table_refused(why, &[1, -1, 0], NODE, 0);
+    all.table_refused(why, &[1, 7, 1], NODE, 0);
+    all.table_refused(why, &[0, 7, 1], NODE, 0);
+    all.table_refused(why, &[2, 0, 0], NODE, 0);
+    all.table_refused(why, &[1, 0, 0, 3, 0, 1], NODE, 1);
+    let why = "READINGS B3: integer nodes";
+    for value in [i64::MIN, i64::MAX, (1 << 62) + 1, -(1 << 62) - 1] {
+        all.table_refused(why, &[1, 0, 0, 0, value, 0], WEIGHT, 1);
+    }
+    let why = "READINGS B7, B9: a node twice, unused nodes";
+    all.table_is(why, &[1, 0, 0, 1, 1, 0, 2, 0, 1, 3, 2, 2], "a^2+2*a*b+b^2");
+    all.table_is(why, &[1, 2, 0, 2, 0, 0], "2*c");
+    all.table_refused(why, &[0, i64::MIN, 0, 1, 0, 0], WEIGHT, 0);
+}
+
+fn formal(all: &mut Statements) {
+    let why = "READINGS B4, N2: formal, not actual";
+    all.formula_refused(why, "(a-a)*a^60", DEGREE, 7);
+    all.formula_refused(why, "(2305843009213693952-2305843009213693952)*2", WEIGHT, 6);
+    all.formula(why, "(2305843009213693952-2305843009213693952)*1", "0");
+    let why = "READINGS B5: a step of a power loses a pattern";
+    all.formula(why, "(1+2*a-2*a^2)^2", "4*a^4-8*a^3+4*a+1");
+    all.formula(why, "(1+2*a-2*a^2)^3", "-8*a^6+24*a^5-12*a^4-16*a^3+6*a^2+6*a+1");
+    let losing = "(2+2*a-2*a^3-a^6-2*a*b-2*a^8*b-a*b^2)^4";
+    let why = "READINGS B5: 128 patterns in the last step, 129 if lost ones counted";
+    all.accepted(why, &super::simplify_case(super::table_of(losing)));
+    let why = "READINGS B6: exponents 0 and 1";
+    all.formula(why, "0^1", "0");
+    all.formula(why, "0^60", "0");
+    all.formula(why, "4611686018427387904^0", "1");
+    all.formula(why, "4611686018427387904^1", "4611686018427387904");
+    let why = "weights raised to a power";
+    all.formula(why, "4^31", "4611686018427387904");
+    all.formula_refused(why, "4^32", WEIGHT, 1);
+    all.formula_refused(why, "4611686018427387904^60", WEIGHT, 1);
+    all.formula(why, "2147483648^2", "4611686018427387904");
+    // 2^62 + 1 as a product: 2147549185 x 2147418113.
+    all.formula_refused(why, "2147549185*2147418113", WEIGHT, 2);
+}
+
+fn slopes(all: &mut Statements) {
+    let why = "slope: VARIABLE, WEIGHT, and their order";
+    let sum = packed_of("a^60+3*h^2");
+    all.slope(why, &sum, 'a', "60*a^59");
+    all.slope(why, &sum, 'h', "6*h");
+    all.slope_refused(why, &sum, 8, VARIABLE, 0);
+    all.slope_refused(why, &sum, u64::MAX, VARIABLE, 0);
+    all.slope_refused(why, &[1], 8, SUM, 1);
+    let half = packed_of("2305843009213693952*a^2");
+    all.slope(why, &half, 'a', "4611686018427387904*a");
+    all.slope(why, &half, 'b', "0");
+    all.slope_refused(why, &packed_of("2305843009213693952*a^2+a*b"), 0, WEIGHT, 0);
+    all.slope_refused(why, &packed_of("4611686018427387904*a^60"), 0, WEIGHT, 0);
+    all.slope(why, &[0], 'h', "0");
+}
+
+fn substitutions(all: &mut Statements) {
+    let why = "READINGS D1, D3: pairs from 0, a variable twice";
+    let ab = packed_of("a*b");
+    all.substitute(why, &ab, &typed_list(&[('a', "a+b"), ('a', "2*a")]), "2*a*b+b^2");
+    let high = packed_of("a^2");
+    all.substitute_refused(why, &high, &typed_list(&[('b', "1"), ('a', "c^31")]), DEGREE, 1);
+    all.substitute(why, &high, &typed_list(&[('b', "1"), ('a', "c^30")]), "c^60");
+    all.substitute_refused(why, &high, &typed_list(&[('a', "2147483649*c")]), WEIGHT, 0);
+    all.substitute(why, &high, &typed_list(&[('a', "2147483648*c")]), "4611686018427387904*c^2");
+    all.substitute_refused(why, &packed_of("a^2+1"), &typed_list(&[('a', "2147483648*c")]), WEIGHT, 0);
+    let why = "READINGS D4: no pairs";
+    all.substitute(why, &ab, &[0], "a*b");
+    all.substitute_refused(why, &ab, &[], LIST, 0);
+    let why = "READINGS D9: zero put in";
+    all.substitute(why, &packed_of("a^60+4611686018427387903*b"), &typed_list(&[('a', "0")]), "4611686018427387903*b");
+    all.substitute(why, &[0], &typed_list(&[('a', "b"), ('b', "c")]), "0");
+    let why = "READINGS D2: the whole list before pair 0 is applied";
+    let bad = [typed_list(&[('a', "c^31")]), vec![0]].concat();
+    all.substitute_refused(why, &high, &bad, LIST, bad.len() - 1);
+}
+
+fn lists(all: &mut Statements) {
+    let ab = packed_of("a*b");
+    let one = packed_of("1");
+    let why = "READINGS D5, D6, C5: the list's own faults";
+    all.substitute_refused(why, &ab, &[9], LIST, 0);
+    all.substitute_refused(why, &ab, &list_of(&[(0, &one[..]); 9]), LIST, 0);
+    all.substitute(why, &ab, &list_of(&[(0, &one[..]); 8]), "b");
+    all.substitute_refused(why, &ab, &[1, 8], VARIABLE, 1);
+    all.substitute_refused(why, &ab, &[2, 0, 0, 8], VARIABLE, 3);
+    all.substitute_refused(why, &ab, &[1, 0x88, 0], LIST, 1);
+    all.substitute_refused(why, &ab, &[1, 0x87], LIST, 2);
+    all.substitute_refused(why, &ab, &[1, 7], LIST, 2);
+    all.substitute_refused(why, &ab, &[1, 7, 0, 0], LIST, 3);
+    all.substitute_refused(why, &ab, &[0, 0], LIST, 1);
+    all.substitute_refused(why, &ab, &[0x80, 0], LIST, 0);
+    all.substitute_refused(why, &ab, &[1, 0, 0x81, 1], LIST, 2);
+    all.substitute_refused(why, &ab, &[2, 0, 1, 2, 0, 0], LIST, 6);
+    all.substitute_refused("SUM comes before the list", &[1], &[9], SUM, 1);
+    let cut = list_of(&[(3, &one)]);
+    for length in 0..cut.len() {
+        all.substitute_refused("bytes end: the list's length", &ab, &cut[..length], LIST, length);
+    }
+}
+
+/// Thirty-two patterns in b and c, times a power of a.
+fn rests(count: usize, power: usize) -> Vec<u8> {
+    let mut terms = Vec::new();
+    for index in 0..count {
+        terms.push(format!("a^{power}*b^{}*c^{}", index % 8, index / 8));
+    }
+    let patterns = |term: &String| crate::packed::read_sum(&packed_of(term)).expect("one term").terms[0];
+    let sum = crate::cases::random_sums::in_order(terms.iter().map(patterns).collect());
+    crate::packed::packed(&sum)
+}
+
+fn spreads(all: &mut Statements) {
+    let why = "READINGS D7: what cancels inside S^k does not count";
+    let lost = typed_list(&[('a', "1+2*d-2*d^2")]);
+    all.accepted(why, &super::substitute_case(&rests(32, 2), &lost));
+    all.substitute_refused(why, &rests(33, 2), &lost, SPREAD, 0);
+    let why = "READINGS D8: every step of S^k";
+    let wide = "1+b+c+d+e+f+g+h+b^2+c^3+d^4+e^5+f^6+g^7+h^8+b^9*c^9";
+    all.substitute_refused(why, &packed_of("a^2"), &typed_list(&[('a', wide)]), SPREAD, 0);
+    all.substitute_refused(why, &packed_of("a^3"), &typed_list(&[('a', "a+b+c+d+e+f+g+h+1")]), SPREAD, 0);
+    let after = typed_list(&[('b', "c"), ('a', "a+b+c+d+e+f+g+h+1")]);
+    all.substitute_refused(why, &packed_of("a^3+b"), &after, SPREAD, 1);
+}
+
+fn estimates(all: &mut Statements) {
+    let why = "READINGS D11: the margin of demand 3";
+    all.estimate(why, &packed_of("a^2-2*a"), &[1], &[1], (-1, 5));
+    let why = "READINGS D12: raised readings up to 65,535";
+    let a = packed_of("a");
+    all.estimate(why, &a, &[-32_768], &[32_767], (-32_768, 32_767));
+    all.estimate(why, &packed_of("a^2"), &[-32_768], &[32_767], (1 << 30, 65_535 * 65_535 - (1 << 30)));
+    all.estimate(why, &a, &[0], &[0], (0, 0));
+    all.estimate(why, &a, &[0], &[3], (0, 3));
+    all.estimate(why, &[0], &[-32_768, 5], &[32_767, 1], (0, 0));
+    all.estimate(why, &packed_of("a^60-1"), &[1], &[0], (0, 0));
+    let why = "RANGE at 2^62 and 2^62 + 1";
+    let full = packed_of("4611686018427387904");
+    all.estimate(why, &full, &[], &[], (1 << 62, 0));
+    all.estimate(why, &packed_of("-2*a^60"), &[-2], &[0], (-(1 << 61), 0));
+    all.estimate_refused(why, &estimate_case(&packed_of("a^60"), &[2], &[1]), RANGE, 0);
+    all.estimate("READINGS N7: a zero factor first", &packed_of("2*a*b^59+1"), &[0, 32_767], &[0, 9], (1, 0));
+}
+
+fn readings(all: &mut Statements) {
+    let why = "READINGS D10, N6: READING";
+    let a = packed_of("a");
+    for index in 0..8 {
+        let mut tolerances = [0i16; 8];
+        tolerances[index] = -1;
+        all.estimate_refused(why, &estimate_case(&a, &[], &tolerances), READING, index);
+        tolerances[7] = -32_768;
+        all.estimate_refused(why, &estimate_case(&a, &[], &tolerances), READING, index);
+    }
+    for (first, second) in [(15, 16), (16, 15), (17, 16), (16, 17), (0, 16), (16, 0), (0, 0), (18, 18)] {
+        let case = Case::Estimate { sum: a.clone(), readings: vec![1; first], tolerances: vec![0xff; second], answer: 16 };
+        all.estimate_refused(why, &case, READING, 0);
+    }
+    let case = Case::Estimate { sum: vec![0x81, 1], readings: vec![], tolerances: vec![0xff; 16], answer: 16 };
+    all.estimate_refused("SUM before READING", &case, SUM, 0);
+}
