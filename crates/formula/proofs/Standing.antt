@@ -12,7 +12,7 @@ use Rattle.algebra.specs.Sum.{Sum}
 use Rattle.algebra.specs.Word.{terms}
 use Rattle.algebra.specs.Held.{wordsOf, coefficientsOf}
 use Rattle.answers.proofs.Writes.{written-front}
-use Rattle.sums.proofs.Holding.{spells, holds, accepted-holdable}
+use Rattle.sums.proofs.Holding.{spells, holds-sum, accepted-holdable}
 use Rattle.sums.proofs.Answering.{Given}
 use Rattle.sums.specs.Part.{part}
 use Rattle.answers.specs.Judge.{Judged, Judged.good, Judged.fails}
@@ -52,7 +52,7 @@ module _ (es : List Entry) {i : ℕ} (count : length es ≡ i) (ns ws : List ℕ
     pub stand-keeps : Keeps i ns ws cs
     stand-keeps = record {
       few = λ j h. omega (arith, stand j (before h) .many, all j (before h) .few);
-      holds = λ j h. rw (stand j (before h) .words-are, stand j (before h) .coefficients-are) (holds (accepted-holdable (sound-accepted (all j (before h)))));
+      holds = λ j h. rw (stand j (before h) .words-are, stand j (before h) .coefficients-are) (holds-sum (sound-accepted (all j (before h))));
     }
 
     pub stand-sums : sumsAt i ns ws cs ≡ sums es

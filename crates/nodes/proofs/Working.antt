@@ -6,14 +6,16 @@ use Prim.Native.Nat.{ℕ, zero, suc, _+_, _*_, _^_, _≤_, _<_, max}
 use native.Mathlib.Omega.{arith}
 use native.Mathlib.Numerals.{add-one}
 use native.Mathlib.Decide.{decLt}
+use lib.Dec.{T}
 use lib.IntN.{ℤ}
 use lib.ListN.{length, getD, take, length-append, List·getD-append, List·getD-map}
 use lib.Seq.{getD-at, length-take-le}
 use borrow.Rule.Slice.PartMut.{midOf, putMid}
 use Rattle.algebra.specs.Limits.{variables, largestDegree, mostTerms, largestWeight, mostNodes, workPlaces}
-use Rattle.algebra.specs.Sum.{Sum, degreeOf, weight}
+use Rattle.algebra.specs.Sum.{Sum, noZero, degreeOf, weight}
 use Rattle.algebra.specs.Arithmetic as arithmetic
 use Rattle.algebra.specs.Held.{firstTerms}
+use Rattle.algebra.proofs.Sums.Ordered.{parts}
 use Rattle.answers.specs.Areas.{written}
 use Rattle.sums.specs.Asked.{Room}
 use Rattle.sums.specs.Formed.{Formed, Formed.formed, within, formedInto, sumOf, productOf, powerOf}
@@ -108,7 +110,7 @@ pub operand : {i : ℕ} {ns : List ℕ} {ws : List ℕ} {cs : List ℤ} → Keep
     → Placed (sumAt ns ws cs a) count sp sc
 operand {i} {ns} {ws} {cs} k a before inside room sp₀ sc₀ is words coefficients =
     let n = getD ns a 0 in
-    let held = k .holds a before in
+    let held = k .holds a before .held in
     let many : length (take n (part a ws)) ≡ n = length-take-le n (part a ws) (omega (arith, part-length a ws (omega arith), k .few a before)) in
     placed-written sp₀ sc₀ (words ∙ ap (λ l. written l sp₀) (held .words-are)) (coefficients ∙ ap (λ l. written l sc₀) (held .coefficients-are)) (terms-many held ∙ many ∙ sym is)
     (holdable held)
@@ -157,6 +159,11 @@ module _ (ss : List Sum) (a e : ℕ) {s : Sum} (is : s ≡ getD ss a []) where
 pub operand-is : {i : ℕ} {ns : List ℕ} {ws : List ℕ} {cs : List ℤ} → Keeps i ns ws cs → (a : ℕ) → a < i → {sp : List ℕ} {sc : List ℤ} {n : ℕ} → Placed (sumAt ns ws cs a) n sp sc
     → firstTerms n sp sc ≡ getD (sumsAt i ns ws cs) a []
 operand-is {i} {ns} {ws} {cs} k a before f = placed-is f ∙ sym (sum-there ns ws cs i a before)
+
+-- and it has no zeros
+pub operand-full : {i : ℕ} {ns : List ℕ} {ws : List ℕ} {cs : List ℤ} → Keeps i ns ws cs → (a : ℕ) → a < i → {sp : List ℕ} {sc : List ℤ} {n : ℕ} → Placed (sumAt ns ws cs a) n sp sc
+    → T (noZero (firstTerms n sp sc))
+operand-full {i} {ns} {ws} {cs} k a before f = rw (placed-is f) (parts variables (sumAt ns ws cs a) (k .holds a before .accepted .isOrdered) .full)
 
 -- the slices of two operands
 pub operands : {i : ℕ} {ns : List ℕ} {ws : List ℕ} {cs : List ℤ} → Keeps i ns ws cs → (a b : ℕ) → a < i → b < i → {sp tp : List ℕ} {sc tc : List ℤ} {n m : ℕ} → Placed (sumAt ns ws cs a) n sp sc → Placed (sumAt ns ws cs b) m tp tc

@@ -10,7 +10,7 @@ use Rattle.algebra.specs.Limits.{largestDegree, mostTerms, largestWeight, mostN
 use Rattle.algebra.specs.Sum.{Sum, degreeOf, weight}
 use Rattle.algebra.specs.Word.{terms}
 use Rattle.algebra.specs.Held.{firstTerms}
-use Rattle.sums.specs.Held.{Held}
+use Rattle.sums.specs.Held.{HeldSum}
 use Rattle.sums.specs.Formed.{Formed, within, formedInto}
 use Rattle.sums.specs.Part.{part}
 use Rattle.nodes.specs.Node.{Kind, Kind.sum, Kind.product, isNode}
@@ -25,10 +25,10 @@ unfoldable pub sumsAt : ℕ → List ℕ → List ℕ → List ℤ → List Sum
 sumsAt zero ns ws cs = []
 sumsAt (suc i) ns ws cs = sumsAt i ns ws cs ++ (sumAt ns ws cs i ∷ [])
 
--- the parts of the nodes before node i each hold a sum
+-- the parts of the nodes before node i each hold an accepted sum
 pub record Keeps (i : ℕ) (ns : List ℕ) (ws : List ℕ) (cs : List ℤ) : Type 0 where
   pub few : (j : ℕ) → j < i → getD ns j 0 ≤ mostTerms
-  pub holds : (j : ℕ) → j < i → Held (take (getD ns j 0) (part j ws)) (take (getD ns j 0) (part j cs))
+  pub holds : (j : ℕ) → j < i → HeldSum (take (getD ns j 0) (part j ws)) (take (getD ns j 0) (part j cs))
 
 -- the sum of a node, by the sums of the nodes before
 abbrev pub nodeFormed : List Sum → Kind → Formed Sum

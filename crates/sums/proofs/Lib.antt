@@ -18,5 +18,9 @@ pub mod Multiplying
 pub mod Pairing
 pub mod Clearing
 pub mod Raising
+pub mod TwoTerms
+pub mod Stepping
+pub mod Wording
+pub mod RaisingTwo
 pub mod Parts
 pub mod Unique

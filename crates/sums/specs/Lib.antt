@@ -2,4 +2,5 @@ pub mod Held
 pub mod Formed
 pub mod Asked
 pub mod Rows
+pub mod Binomial
 pub mod Part

@@ -13,6 +13,7 @@ ghost use Rattle.sums.specs.Asked.{Room, Addends, Factors, Base};
 ghost use Rattle.sums.specs.Formed.{formedOf, Formed.formed, sumOf, productOf, powerOf, formedInto};
 ghost use Rattle.sums.specs.Rows.{RoomFor};
 
+mod binomial;
 pub mod rows;
 
 // What forming a sum answers.
@@ -188,6 +189,10 @@ pub fn power(
 {
     if e == 0 {
         return integer(1, patterns, coefficients);
+    }
+    if sp.len() == 2 {
+        binomial::raise(sp, sc, e as usize, patterns, coefficients);
+        return Formed::Terms(e as usize + 1);
     }
     let mut own_patterns = [0u64; MOST_TERMS];
     let mut own_coefficients = [0i64; MOST_TERMS];

@@ -8,7 +8,7 @@ use Rattle.algebra.specs.Sum.{Sum}
 use Rattle.sums.proofs.Fronts.{Placed, placed-held}
 use Rattle.nodes.specs.Work.{sumAt, sumsAt}
 use Rattle.nodes.proofs.Formally.{base-child}
-use Rattle.nodes.proofs.Working.{lent-room, operand, operand-is, base-low, base-light, base-formed, formed-at}
+use Rattle.nodes.proofs.Working.{lent-room, operand, operand-is, operand-full, base-low, base-light, base-formed, formed-at}
 use Rattle.nodes.proofs.work.power_by.Statement.{statement}
 use Rattle.nodes.proofs.work.power_by.Tie as tie
 
@@ -96,6 +96,7 @@ power-requires c κs =
     let is = operand-is (s .pre .0 .keeps) (s .args .a) (child s) f in (
       record {
         held = placed-held f;
+        full = operand-full (s .pre .0 .keeps) (s .args .a) (child s) f;
         low = base-low (kept s) (s .args .a) (s .args .e) is (s .pre .0 .low);
         light = base-light (kept s) (s .args .a) (s .args .e) is (s .pre .0 .light);
       },
