@@ -1,13 +1,12 @@
 -- The formal degree and the formal weight, kind by kind, as the code computes them.
 use mathlib.Core.Path.{_≡_, sym, ap, subst}
-use mathlib.Core.Bool.{Bool, true, false, _&&_}
+use mathlib.Core.Bool.{_&&_}
 use mathlib.Core.List.{List}
 use Prim.Native.Nat.{ℕ, _≤_, _<_}
 use lib.Dec.{T, ltb, leb, ltb→lt, leb→le}
 use Rattle.algebra.specs.Limits.{variables, largestDegree}
 use Rattle.algebra.proofs.Numbers.Test.{and-l, and-r}
 use Rattle.nodes.specs.Node.{kindOf, isNode}
-use Rattle.nodes.specs.Work.{twoOf}
 use Rattle.nodes.specs.Formal.{formalDegree, formalWeight}
 use Rattle.nodes.specs.declared.Kind.{Kind}
 use Rattle.nodes.specs.declared.Kind.the-variants.{Variable, Sum, Product, Power}
@@ -20,10 +19,6 @@ module _ (n : ℕ) where
 
   pub base-child : (a e : ℕ) → T (ltb a n && leb e largestDegree) → (a < n) × (e ≤ largestDegree)
   base-child a e t = (ltb→lt a n (and-l (ltb a n) (leb e largestDegree) t), leb→le e largestDegree (and-r (ltb a n) (leb e largestDegree) t))
-
-  pub pair-children : (multiply : Bool) (a b : ℕ) → T (isNode n (twoOf multiply a b)) → (a < n) × (b < n)
-  pair-children true a b t = two-children a b t
-  pair-children false a b t = two-children a b t
 
 -- the same of the code's kinds
 module _ (n : ℕ) {k : Kind} (is-node : T (isNode n (kindOf k))) where

@@ -1,8 +1,7 @@
 -- A node's sum, formed of earlier sums that are kept in the parts of the work areas.
 use mathlib.Core.Path.{_≡_, refl, sym, _∙_, ap, ap₂, subst}
-use mathlib.Core.Bool.{Bool, true, false}
 use mathlib.Core.List.{List, [], _∷_, _++_, map}
-use Prim.Native.Nat.{ℕ, zero, suc, _+_, _*_, _^_, _≤_, _<_, max}
+use Prim.Native.Nat.{ℕ, zero, suc, _+_, _*_, _^_, _≤_, _<_}
 use native.Mathlib.Omega.{arith}
 use native.Mathlib.Numerals.{add-one}
 use native.Mathlib.Decide.{decLt}
@@ -18,14 +17,15 @@ use Rattle.algebra.specs.Held.{firstTerms}
 use Rattle.algebra.proofs.Sums.Ordered.{parts}
 use Rattle.answers.specs.Areas.{written}
 use Rattle.sums.specs.Asked.{Room}
-use Rattle.sums.specs.Formed.{Formed, Formed.formed, within, formedInto, sumOf, productOf, powerOf}
+use Rattle.sums.specs.Formed.{Formed, Formed.formed, Formed.over, within, formedInto, sumOf, productOf, powerOf}
 use Rattle.nodes.specs.declared.Kind as code
-use Rattle.nodes.specs.Node.{Kind.integer, Kind.variable, Kind.power, kindOf}
+use Rattle.nodes.specs.Node.{Kind, Kind.integer, Kind.variable, Kind.sum, Kind.product, Kind.power, kindOf}
 use Rattle.nodes.specs.Formal.{formalDegree, formalWeight, nodeSpread, nodeSum}
 use Rattle.sums.proofs.Holding.{terms-many, holdable}
 use Rattle.sums.proofs.Fronts.{Placed, placed-written, placed-is}
 use Rattle.sums.specs.Part.{part}
-use Rattle.nodes.specs.Work.{twoOf, pairOf, sumAt, sumsAt, Keeps, nodeFormed, FormedAt, Ready}
+use Rattle.nodes.specs.Work.{sumAt, sumsAt, Keeps, nodeFormed, FormedAt, Ready}
+use Rattle.nodes.specs.Direct.{sumIn, Operand, Place}
 use Rattle.sums.proofs.Parts.{span, lent, lent-length, part-length, part-put, before-put, after-put}
 
 -- ---- Operands.
@@ -79,29 +79,6 @@ module _ (i : ℕ) (f : Formed Sum) (ws : List ℕ) (cs : List ℤ) (room-w : mo
 pub lent-room : (i : ℕ) (ws : List ℕ) (cs : List ℤ) → mostTerms * suc i ≤ length ws → mostTerms * suc i ≤ length cs → Room (midOf (mostTerms * i) (span i) ws) (midOf (mostTerms * i) (span i) cs)
 lent-room i ws cs room-w room-c = record { words = lent-length i ws room-w; coefficients = lent-length i cs room-c }
 
--- ---- Two sums, as nodes 0 and 1.
-
-module _ (s t : Sum) (multiply : Bool) where
-  pub product-low : multiply ≡ true → formalDegree (map degreeOf (s ∷ t ∷ [])) (twoOf multiply 0 1) ≤ largestDegree → degreeOf s + degreeOf t ≤ largestDegree
-  unfolding formalDegree
-  product-low m h = subst (λ b. formalDegree (map degreeOf (s ∷ t ∷ [])) (twoOf b 0 1) ≤ largestDegree) m h
-
-  pub product-light : multiply ≡ true → formalWeight (map weight (s ∷ t ∷ [])) (twoOf multiply 0 1) ≤ largestWeight → weight s * weight t ≤ largestWeight
-  unfolding formalWeight
-  product-light m h = subst (λ b. formalWeight (map weight (s ∷ t ∷ [])) (twoOf b 0 1) ≤ largestWeight) m h
-
-  pub sum-light : multiply ≡ false → formalWeight (map weight (s ∷ t ∷ [])) (twoOf multiply 0 1) ≤ largestWeight → weight s + weight t ≤ largestWeight
-  unfolding formalWeight
-  sum-light m h = subst (λ b. formalWeight (map weight (s ∷ t ∷ [])) (twoOf b 0 1) ≤ largestWeight) m h
-
-  pub is-product : multiply ≡ true → productOf s t ≡ nodeFormed (s ∷ t ∷ []) (twoOf multiply 0 1)
-  unfolding productOf nodeSpread nodeSum
-  is-product m = ap (λ b. nodeFormed (s ∷ t ∷ []) (twoOf b 0 1)) (sym m)
-
-  pub is-sum : multiply ≡ false → sumOf s t ≡ nodeFormed (s ∷ t ∷ []) (twoOf multiply 0 1)
-  unfolding sumOf nodeSpread nodeSum
-  is-sum m = ap (λ b. nodeFormed (s ∷ t ∷ []) (twoOf b 0 1)) (sym m)
-
 -- ---- Earlier nodes as operands.
 
 -- the terms of node a, copied to two arrays
@@ -115,31 +92,30 @@ operand {i} {ns} {ws} {cs} k a before inside room sp₀ sc₀ is words coefficie
     placed-written sp₀ sc₀ (words ∙ ap (λ l. written l sp₀) (held .words-are)) (coefficients ∙ ap (λ l. written l sc₀) (held .coefficients-are)) (terms-many held ∙ many ∙ sym is)
     (holdable held)
 
--- two nodes of a list are the nodes 0 and 1 of their own
-module _ (ss : List Sum) (multiply : Bool) (a b : ℕ) {ps : List Sum} (is : ps ≡ getD ss a [] ∷ getD ss b [] ∷ []) where
-  two-low : (m : Bool) → formalDegree (map degreeOf ss) (twoOf m a b) ≡ formalDegree (map degreeOf (getD ss a [] ∷ getD ss b [] ∷ [])) (twoOf m 0 1)
-  unfolding formalDegree degreeOf
-  two-low true = ap₂ _+_ (List·getD-map degreeOf ss a []) (List·getD-map degreeOf ss b [])
-  two-low false = ap₂ max (List·getD-map degreeOf ss a []) (List·getD-map degreeOf ss b [])
-
-  two-light : (m : Bool) → formalWeight (map weight ss) (twoOf m a b) ≡ formalWeight (map weight (getD ss a [] ∷ getD ss b [] ∷ [])) (twoOf m 0 1)
+-- two nodes of a list as addends, and as factors
+module _ (ss : List Sum) (a b : ℕ) {s t : Sum} (is : s ≡ getD ss a []) (is' : t ≡ getD ss b []) where
+  pub addends-light : formalWeight (map weight ss) (sum a b) ≤ largestWeight → weight s + weight t ≤ largestWeight
   unfolding formalWeight weight
-  two-light true = ap₂ _*_ (List·getD-map weight ss a []) (List·getD-map weight ss b [])
-  two-light false = ap₂ _+_ (List·getD-map weight ss a []) (List·getD-map weight ss b [])
+  addends-light h =
+      subst (λ (n : ℕ). n ≤ largestWeight) (ap₂ _+_ (List·getD-map weight ss a [] ∙ ap weight (sym is)) (List·getD-map weight ss b [] ∙ ap weight (sym is'))) h
 
-  two-formed : (m : Bool) → nodeFormed (getD ss a [] ∷ getD ss b [] ∷ []) (twoOf m 0 1) ≡ nodeFormed ss (twoOf m a b)
-  unfolding nodeSpread nodeSum
-  two-formed true = refl
-  two-formed false = refl
+  pub addends-formed : sumOf s t ≡ nodeFormed ss (sum a b)
+  unfolding sumOf nodeSpread nodeSum
+  addends-formed = ap₂ sumOf is is'
 
-  pub pair-low : formalDegree (map degreeOf ss) (twoOf multiply a b) ≤ largestDegree → formalDegree (map degreeOf ps) (twoOf multiply 0 1) ≤ largestDegree
-  pair-low h = subst (λ (n : ℕ). n ≤ largestDegree) (two-low multiply ∙ ap (λ l. formalDegree (map degreeOf l) (twoOf multiply 0 1)) (sym is)) h
+  pub factors-low : formalDegree (map degreeOf ss) (product a b) ≤ largestDegree → degreeOf s + degreeOf t ≤ largestDegree
+  unfolding formalDegree degreeOf
+  factors-low h =
+      subst (λ (n : ℕ). n ≤ largestDegree) (ap₂ _+_ (List·getD-map degreeOf ss a [] ∙ ap degreeOf (sym is)) (List·getD-map degreeOf ss b [] ∙ ap degreeOf (sym is'))) h
 
-  pub pair-light : formalWeight (map weight ss) (twoOf multiply a b) ≤ largestWeight → formalWeight (map weight ps) (twoOf multiply 0 1) ≤ largestWeight
-  pair-light h = subst (λ (n : ℕ). n ≤ largestWeight) (two-light multiply ∙ ap (λ l. formalWeight (map weight l) (twoOf multiply 0 1)) (sym is)) h
+  pub factors-light : formalWeight (map weight ss) (product a b) ≤ largestWeight → weight s * weight t ≤ largestWeight
+  unfolding formalWeight weight
+  factors-light h =
+      subst (λ (n : ℕ). n ≤ largestWeight) (ap₂ _*_ (List·getD-map weight ss a [] ∙ ap weight (sym is)) (List·getD-map weight ss b [] ∙ ap weight (sym is'))) h
 
-  pub pair-formed : nodeFormed ps (twoOf multiply 0 1) ≡ nodeFormed ss (twoOf multiply a b)
-  pair-formed = ap (λ l. nodeFormed l (twoOf multiply 0 1)) is ∙ two-formed multiply
+  pub factors-formed : productOf s t ≡ nodeFormed ss (product a b)
+  unfolding productOf nodeSpread nodeSum
+  factors-formed = ap₂ productOf is is'
 
 -- a node of a list as the base of a power
 module _ (ss : List Sum) (a e : ℕ) {s : Sum} (is : s ≡ getD ss a []) where
@@ -165,15 +141,30 @@ pub operand-full : {i : ℕ} {ns : List ℕ} {ws : List ℕ} {cs : List ℤ} →
     → T (noZero (firstTerms n sp sc))
 operand-full {i} {ns} {ws} {cs} k a before f = rw (placed-is f) (parts variables (sumAt ns ws cs a) (k .holds a before .accepted .isOrdered) .full)
 
--- the slices of two operands
-pub operands : {i : ℕ} {ns : List ℕ} {ws : List ℕ} {cs : List ℤ} → Keeps i ns ws cs → (a b : ℕ) → a < i → b < i → {sp tp : List ℕ} {sc tc : List ℤ} {n m : ℕ} → Placed (sumAt ns ws cs a) n sp sc → Placed (sumAt ns ws cs b) m tp tc
-    → pairOf (take n sp) (take n sc) (take m tp) (take m tc) ≡ getD (sumsAt i ns ws cs) a [] ∷ getD (sumsAt i ns ws cs) b [] ∷ []
-operands k a b before-a before-b f g =
-    ap₂ (λ (s t : Sum). s ∷ t ∷ []) (operand-is k a before-a f) (operand-is k b before-b g)
-
 -- what was formed, by another name
 pub renamed : {i : ℕ} {f g : Formed Sum} {answer : Formed ℕ} {ws ws' : List ℕ} {cs cs' : List ℤ} → g ≡ f → FormedAt i g answer ws cs ws' cs' → FormedAt i f answer ws cs ws' cs'
 renamed {i} {f} {g} {answer} {ws} {ws'} {cs} {cs'} e h = subst (λ (x : Formed Sum). FormedAt i x answer ws cs ws' cs') e h
+
+-- nothing was formed
+pub untouched : (i : ℕ) {f : Formed Sum} (ws : List ℕ) (cs : List ℤ) → f ≡ over → FormedAt i f over ws cs ws cs
+unfolding formedInto
+untouched i ws cs e = record { in-part = rw e refl; words-before = refl; words-after = refl; coefficients-before = refl; coefficients-after = refl }
+
+-- ---- Operands that are read where they stand.
+
+module _ {i : ℕ} {ns : List ℕ} {ws : List ℕ} {cs : List ℤ} {k : Kind} (r : Ready i ns ws cs k) where
+  pub place-ready : Place i ws cs
+  place-ready = record { inside = r .inside; words-room = r .words-room; coefficients-room = r .coefficients-room }
+
+  pub operand-ready : (a : ℕ) → a < i → {n : ℕ} → n ≡ getD ns a 0 → Operand i a n ws cs
+  operand-ready a before is = record {
+    before = before;
+    few = omega (arith, is, r .keeps .few a before);
+    holds = rw is (r .keeps .holds a before);
+  }
+
+  pub sum-ready : (a : ℕ) → a < i → {n : ℕ} → n ≡ getD ns a 0 → sumIn a n ws cs ≡ getD (sumsAt i ns ws cs) a []
+  sum-ready a before is = ap (λ (m : ℕ). sumIn a m ws cs) is ∙ sym (sum-there ns ws cs i a before)
 
 -- ---- The kind that was matched.
 

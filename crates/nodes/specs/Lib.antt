@@ -1,3 +1,4 @@
 pub mod Node
 pub mod Formal
 pub mod Work
+pub mod Direct

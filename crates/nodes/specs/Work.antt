@@ -1,6 +1,5 @@
 -- What the code keeps in the work areas: each node's terms in its part. ns has the number of terms of each node.
 use mathlib.Core.Path.{_≡_}
-use mathlib.Core.Bool.{Bool, true, false}
 use mathlib.Core.List.{List, [], _∷_, _++_, map}
 use Prim.Native.Nat.{ℕ, zero, suc, _*_, _≤_, _<_}
 use lib.Dec.{T}
@@ -8,12 +7,11 @@ use lib.IntN.{ℤ}
 use lib.ListN.{length, getD, take, drop}
 use Rattle.algebra.specs.Limits.{largestDegree, mostTerms, largestWeight, mostNodes, workPlaces}
 use Rattle.algebra.specs.Sum.{Sum, degreeOf, weight}
-use Rattle.algebra.specs.Word.{terms}
 use Rattle.algebra.specs.Held.{firstTerms}
 use Rattle.sums.specs.Held.{HeldSum}
 use Rattle.sums.specs.Formed.{Formed, within, formedInto}
 use Rattle.sums.specs.Part.{part}
-use Rattle.nodes.specs.Node.{Kind, Kind.sum, Kind.product, isNode}
+use Rattle.nodes.specs.Node.{Kind, isNode}
 use Rattle.nodes.specs.Formal.{formalDegree, formalWeight, nodeSpread, nodeSum}
 
 -- the terms in the part of node j
@@ -52,14 +50,3 @@ pub record FormedAt (i : ℕ) (f : Formed Sum) (answer : Formed ℕ) (ws : List 
   pub words-after : drop (mostTerms * suc i) ws' ≡ drop (mostTerms * suc i) ws
   pub coefficients-before : take (mostTerms * i) cs' ≡ take (mostTerms * i) cs
   pub coefficients-after : drop (mostTerms * suc i) cs' ≡ drop (mostTerms * suc i) cs
-
--- ---- For the function that forms a sum or a product.
-
--- a product, or a sum
-abbrev pub twoOf : Bool → ℕ → ℕ → Kind
-twoOf true a b = product a b
-twoOf false a b = sum a b
-
--- two sums, held in slices, as the nodes 0 and 1
-abbrev pub pairOf : List ℕ → List ℤ → List ℕ → List ℤ → List Sum
-pairOf sp sc tp tc = terms sp sc ∷ terms tp tc ∷ []

@@ -1,5 +1,6 @@
 // The sum of a node, formed of the sums of earlier nodes, in the work areas.
 use crate::Kind;
+use crate::direct;
 use algebra::MOST_TERMS;
 use answers::areas;
 use sums::Formed;
@@ -12,10 +13,10 @@ ghost use Rattle.algebra.specs.Sum.{degreeOf, weight};
 ghost use Rattle.answers.specs.Areas.{written};
 ghost use Rattle.sums.specs.Held.{Held};
 ghost use Rattle.sums.specs.Formed.{formedOf};
-ghost use Rattle.nodes.specs.Node.{kindOf, Kind.power};
+ghost use Rattle.nodes.specs.Node.{kindOf, Kind.sum, Kind.product, Kind.power};
 ghost use Rattle.nodes.specs.Formal.{formalDegree, formalWeight};
 ghost use Rattle.sums.specs.Part.{part};
-ghost use Rattle.nodes.specs.Work.{sumsAt, nodeFormed, Ready, FormedAt, twoOf, pairOf};
+ghost use Rattle.nodes.specs.Work.{sumsAt, nodeFormed, Ready, FormedAt};
 
 // Where a few terms are copied.
 const FEW_TERMS: usize = 8;
@@ -43,52 +44,29 @@ fn copy_operand(
     areas::copy_coefficients(sc, &coefficients[start..end], n);
 }
 
-// The sum of two sums, or their product, into the part of node i. (As in `Ready`, the formulas of formal degree and weight say what
-// sum and product need of the sums' own degrees and weights.)
-fn form_pair(
-    multiply: bool,
-    sp: &[u64],
-    sc: &[i64],
-    tp: &[u64],
-    tc: &[i64],
+// The sum of two earlier nodes, into the part of node i.
+fn form_sum(
+    a: usize,
+    b: usize,
     i: usize,
+    counts: &[usize],
     patterns: &mut [u64],
     coefficients: &mut [i64],
 ) -> Formed
-    requires { ⌜ Held (now sp) (now sc) ⌝ }
-    requires { ⌜ Held (now tp) (now tc) ⌝ }
-    requires { ⌜ formalDegree (map degreeOf (pairOf (now sp) (now sc) (now tp) (now tc))) (twoOf multiply 0 1) ≤ largestDegree ⌝ }
-    requires { ⌜ formalWeight (map weight (pairOf (now sp) (now sc) (now tp) (now tc))) (twoOf multiply 0 1) ≤ largestWeight ⌝ }
-    requires { ⌜ i < mostNodes ⌝ }
-    requires { ⌜ workPlaces ≤ length (now patterns) ⌝ }
-    requires { ⌜ workPlaces ≤ length (now coefficients) ⌝ }
-    ensures { λ r. ⌜ FormedAt i (nodeFormed (pairOf (now (sp .entry)) (now (sc .entry)) (now (tp .entry)) (now (tc .entry))) (twoOf multiply 0 1)) (formedOf r) (now (patterns .entry)) (now (coefficients .entry)) (now (patterns .exit)) (now (coefficients .exit)) ⌝ }
+    requires { ⌜ Ready i (now counts) (now patterns) (now coefficients) (sum a b) ⌝ }
+    ensures { λ r. ⌜ FormedAt i (nodeFormed (sumsAt i (now (counts .entry)) (now (patterns .entry)) (now (coefficients .entry))) (sum a b)) (formedOf r) (now (patterns .entry)) (now (coefficients .entry)) (now (patterns .exit)) (now (coefficients .exit)) ⌝ }
 {
-    let start = MOST_TERMS * i;
-    let end = start + MOST_TERMS;
-    if multiply {
-        return sums::product(
-            sp,
-            sc,
-            tp,
-            tc,
-            &mut patterns[start..end],
-            &mut coefficients[start..end],
-        );
+    let n = counts[a];
+    let m = counts[b];
+    if !direct::fits(patterns, coefficients, a, n, b, m, i) {
+        return Formed::Over;
     }
-    sums::sum(
-        sp,
-        sc,
-        tp,
-        tc,
-        &mut patterns[start..end],
-        &mut coefficients[start..end],
-    )
+    let count = direct::merge(patterns, coefficients, a, n, b, m, i);
+    Formed::Terms(count)
 }
 
-// The sum or the product of two earlier nodes, into the part of node i, by way of four arrays that have room for the operands.
-fn form_by(
-    multiply: bool,
+// The product of two earlier nodes, into the part of node i, by way of four arrays that have room for the operands.
+fn product_by(
     a: usize,
     b: usize,
     i: usize,
@@ -100,32 +78,31 @@ fn form_by(
     patterns: &mut [u64],
     coefficients: &mut [i64],
 ) -> Formed
-    requires { ⌜ Ready i (now counts) (now patterns) (now coefficients) (twoOf multiply a b) ⌝ }
+    requires { ⌜ Ready i (now counts) (now patterns) (now coefficients) (product a b) ⌝ }
     requires { ⌜ getD (now counts) a 0 ≤ length (now sp) ⌝ }
     requires { ⌜ getD (now counts) a 0 ≤ length (now sc) ⌝ }
     requires { ⌜ getD (now counts) b 0 ≤ length (now tp) ⌝ }
     requires { ⌜ getD (now counts) b 0 ≤ length (now tc) ⌝ }
-    ensures { λ r. ⌜ FormedAt i (nodeFormed (sumsAt i (now (counts .entry)) (now (patterns .entry)) (now (coefficients .entry))) (twoOf multiply a b)) (formedOf r) (now (patterns .entry)) (now (coefficients .entry)) (now (patterns .exit)) (now (coefficients .exit)) ⌝ }
+    ensures { λ r. ⌜ FormedAt i (nodeFormed (sumsAt i (now (counts .entry)) (now (patterns .entry)) (now (coefficients .entry))) (product a b)) (formedOf r) (now (patterns .entry)) (now (coefficients .entry)) (now (patterns .exit)) (now (coefficients .exit)) ⌝ }
 {
     let n = counts[a];
     let m = counts[b];
     copy_operand(a, n, patterns, coefficients, sp, sc);
     copy_operand(b, m, patterns, coefficients, tp, tc);
-    form_pair(
-        multiply,
+    let start = MOST_TERMS * i;
+    let end = start + MOST_TERMS;
+    sums::product(
         &sp[0..n],
         &sc[0..n],
         &tp[0..m],
         &tc[0..m],
-        i,
-        patterns,
-        coefficients,
+        &mut patterns[start..end],
+        &mut coefficients[start..end],
     )
 }
 
-// The same, by way of small arrays if both operands are small: to clear large ones would take longer than to form the sum.
-fn form_two(
-    multiply: bool,
+// The same, by way of small arrays if both operands are small: to clear large ones would take longer than to form the product. With an operand of one term nothing is copied at all.
+fn form_product(
     a: usize,
     b: usize,
     i: usize,
@@ -133,17 +110,26 @@ fn form_two(
     patterns: &mut [u64],
     coefficients: &mut [i64],
 ) -> Formed
-    requires { ⌜ Ready i (now counts) (now patterns) (now coefficients) (twoOf multiply a b) ⌝ }
-    ensures { λ r. ⌜ FormedAt i (nodeFormed (sumsAt i (now (counts .entry)) (now (patterns .entry)) (now (coefficients .entry))) (twoOf multiply a b)) (formedOf r) (now (patterns .entry)) (now (coefficients .entry)) (now (patterns .exit)) (now (coefficients .exit)) ⌝ }
+    requires { ⌜ Ready i (now counts) (now patterns) (now coefficients) (product a b) ⌝ }
+    ensures { λ r. ⌜ FormedAt i (nodeFormed (sumsAt i (now (counts .entry)) (now (patterns .entry)) (now (coefficients .entry))) (product a b)) (formedOf r) (now (patterns .entry)) (now (coefficients .entry)) (now (patterns .exit)) (now (coefficients .exit)) ⌝ }
 {
-    if counts[a] <= FEW_TERMS {
-        if counts[b] <= FEW_TERMS {
+    let n = counts[a];
+    let m = counts[b];
+    if n == 1 {
+        direct::multiply(patterns, coefficients, a, b, m, i);
+        return Formed::Terms(m);
+    }
+    if m == 1 {
+        direct::multiply(patterns, coefficients, b, a, n, i);
+        return Formed::Terms(n);
+    }
+    if n <= FEW_TERMS {
+        if m <= FEW_TERMS {
             let mut sp = [0u64; FEW_TERMS];
             let mut sc = [0i64; FEW_TERMS];
             let mut tp = [0u64; FEW_TERMS];
             let mut tc = [0i64; FEW_TERMS];
-            return form_by(
-                multiply,
+            return product_by(
                 a,
                 b,
                 i,
@@ -161,8 +147,7 @@ fn form_two(
     let mut sc = [0i64; MOST_TERMS];
     let mut tp = [0u64; MOST_TERMS];
     let mut tc = [0i64; MOST_TERMS];
-    form_by(
-        multiply,
+    product_by(
         a,
         b,
         i,
@@ -250,8 +235,8 @@ pub fn form(
             &mut patterns[start..end],
             &mut coefficients[start..end],
         ),
-        Kind::Sum(a, b) => form_two(false, a, b, i, counts, patterns, coefficients),
-        Kind::Product(a, b) => form_two(true, a, b, i, counts, patterns, coefficients),
+        Kind::Sum(a, b) => form_sum(a, b, i, counts, patterns, coefficients),
+        Kind::Product(a, b) => form_product(a, b, i, counts, patterns, coefficients),
         Kind::Power(a, e) => form_power(a, e, i, counts, patterns, coefficients),
     }
 }

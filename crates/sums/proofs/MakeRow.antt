@@ -26,12 +26,15 @@ row-map u (t ∷ s) = ap (λ l. timesTerm u t ∷ l) (row-map u s)
 pub row-length : (u : Term) (s : Sum) → length (row u s) ≡ length s
 row-length u s = ap length (row-map u s) ∙ length-map s (timesTerm u)
 
+pub row-at : (u : Term) (s : Sum) (k : ℕ) (d : Term) → k < length s → getD (row u s) k d ≡ timesTerm u (getD s k d)
+row-at u s k d h = ap (λ (l : Sum). getD l k d) (row-map u s) ∙ map-at (timesTerm u) s k d d h
+
 -- its k-th term, of the word p and the coefficient c
 module _ {ws : List ℕ} {cs : List ℤ} (held : Held ws cs) (k : ℕ) (h : k < length ws) where
   pub row-term : (p : ℕ) (c : ℤ) (d : Term) → getD (row (term c (exponents p)) (terms ws cs)) k d ≡ term (c *ℤ getD cs k (pos 0)) (times (exponents p) (exponents (getD ws k 0)))
   row-term p c d =
       let u = term c (exponents p) in
-      ap (λ (l : Sum). getD l k d) (row-map u (terms ws cs)) ∙ map-at (timesTerm u) (terms ws cs) k d d (omega (arith, terms-many held)) ∙ ap (timesTerm u) (term-at held k h d)
+      row-at u (terms ws cs) k d (omega (arith, terms-many held)) ∙ ap (timesTerm u) (term-at held k h d)
 
   pub low-enough : (p : ℕ) → degree (exponents p) + degreeOf (terms ws cs) ≤ largestDegree → degree (exponents p) + degree (exponents (getD ws k 0)) ≤ largestDegree
   low-enough p low = omega (arith, degree-at held k h)

@@ -45,11 +45,11 @@ unfolding insert place
 insert-past u [] t h = refl
 insert-past u (v ∷ s) t h = rw (order-turn (v .pattern) (u .pattern) ∙ ap turn (h .0), insert-past u s t (h .1))
 
-insert-front : (u : Term) (s : Sum) → T (inOrder s) → T (ahead (u .pattern) s) → insert u s ≡ u ∷ s
+pub insert-front : (u : Term) (s : Sum) → T (inOrder s) → T (ahead (u .pattern) s) → insert u s ≡ u ∷ s
 unfolding gather
 insert-front u s k h = ap (insert u) (sym (gather-fixed s k)) ∙ gather-fixed (u ∷ s) (order-cons u s h k)
 
-insert-same : (u v : Term) (s : Sum) → order (u .pattern) (v .pattern) ≡ Ordering·eq → insert u (v ∷ s) ≡ term (u .coefficient +ℤ v .coefficient) (u .pattern) ∷ s
+pub insert-same : (u v : Term) (s : Sum) → order (u .pattern) (v .pattern) ≡ Ordering·eq → insert u (v ∷ s) ≡ term (u .coefficient +ℤ v .coefficient) (u .pattern) ∷ s
 unfolding insert place
 insert-same u v s e = rw e (rw (order-eq (u .pattern) (v .pattern) e) refl)
 

@@ -88,14 +88,14 @@ variable-requires c κs =
 enum-known-kind-3 : tie.Need-enum-known-kind-3
 enum-known-kind-3 c = search needs
 
-form-two-requires : tie.Need-form-two-requires
-form-two-requires c κs = ready-as (c .before .before .before .kind3 .given .1) (c .before .before .before .before .before .before .before .pre)
+form-sum-requires : tie.Need-form-sum-requires
+form-sum-requires c κs = ready-as (c .before .before .before .kind3 .given .1) (c .before .before .before .before .before .before .before .pre)
 
 enum-known-kind-4 : tie.Need-enum-known-kind-4
 enum-known-kind-4 c = search needs
 
-form-two-requires-2 : tie.Need-form-two-requires-2
-form-two-requires-2 c κs = ready-as (c .before .before .before .kind4 .given .1) (c .before .before .before .before .before .before .before .pre)
+form-product-requires : tie.Need-form-product-requires
+form-product-requires c κs = ready-as (c .before .before .before .kind4 .given .1) (c .before .before .before .before .before .before .before .pre)
 
 enum-known-kind-5 : tie.Need-enum-known-kind-5
 enum-known-kind-5 c = search needs
@@ -137,7 +137,7 @@ same-length-6 : tie.Need-same-length-6
 same-length-6 c = search needs
 
 returns-3 : tie.Need-returns-3
-returns-3 c = let d = c .before .before .before in renamed (formed-as (d .before .before .before .before .kind3 .given .1) (kept (d .before .before .before .before .before .before .before .before))) (d .form-two .ensures)
+returns-3 c = let d = c .before .before .before in renamed (formed-as (d .before .before .before .before .kind3 .given .1) (kept (d .before .before .before .before .before .before .before .before))) (d .form-sum .ensures)
 
 same-length-7 : tie.Need-same-length-7
 same-length-7 c = search needs
@@ -146,7 +146,7 @@ same-length-8 : tie.Need-same-length-8
 same-length-8 c = search needs
 
 returns-4 : tie.Need-returns-4
-returns-4 c = let d = c .before .before .before in renamed (formed-as (d .before .before .before .before .kind4 .given .1) (kept (d .before .before .before .before .before .before .before .before))) (d .form-two2 .ensures)
+returns-4 c = let d = c .before .before .before in renamed (formed-as (d .before .before .before .before .kind4 .given .1) (kept (d .before .before .before .before .before .before .before .before))) (d .form-product .ensures)
 
 same-length-9 : tie.Need-same-length-9
 same-length-9 c = search needs
@@ -184,9 +184,9 @@ form-spec =
     part-variable-end-2
     variable-requires
     enum-known-kind-3
-    form-two-requires
+    form-sum-requires
     enum-known-kind-4
-    form-two-requires-2
+    form-product-requires
     enum-known-kind-5
     form-power-requires
     same-length

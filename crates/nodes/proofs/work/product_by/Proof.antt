@@ -1,4 +1,4 @@
--- `form_by` meets its contract: its operands are the sums of two earlier nodes.
+-- `product_by` meets its contract: its operands are the sums of two earlier nodes, copied, and both work areas lend the part of node i.
 use mathlib.Core.List.{List}
 use Prim.Native.Nat.{_-_, _<_}
 use native.Mathlib.Omega.{arith}
@@ -7,13 +7,13 @@ use lib.ListN.{getD}
 use Rattle.algebra.specs.Sum.{Sum}
 use Rattle.sums.proofs.Fronts.{Placed, placed-inside, placed-held}
 use Rattle.nodes.specs.Work.{sumAt, sumsAt}
-use Rattle.nodes.proofs.Formally.{pair-children}
-use Rattle.nodes.proofs.Working.{operand, operands, pair-low, pair-light, pair-formed, renamed}
-use Rattle.nodes.proofs.work.form_by.Statement.{statement}
-use Rattle.nodes.proofs.work.form_by.Tie as tie
+use Rattle.nodes.proofs.Formally.{two-children}
+use Rattle.nodes.proofs.Working.{operand, operand-is, factors-low, factors-light, factors-formed, lent-room, formed-at}
+use Rattle.nodes.proofs.work.product_by.Statement.{statement}
+use Rattle.nodes.proofs.work.product_by.Tie as tie
 
 children : (c : tie.Start) → (c .args .a < c .args .i) × (c .args .b < c .args .i)
-children c = pair-children (c .args .i) (c .args .multiply) _ _ (c .pre .0 .is-node)
+children c = two-children (c .args .i) _ _ (c .pre .0 .is-node)
 
 abbrev kept : (c : tie.Start) → List Sum
 kept c = sumsAt (c .args .i) (c .args .counts .now) (c .args .patterns .now) (c .args .coefficients .now)
@@ -61,52 +61,90 @@ copy-operand-requires-2 c κs =
     let h = children s in
     (omega arith, (omega arith, (s .pre .0 .keeps .few _ (h .1), (search needs, search needs))))
 
-sub-form-pair : tie.Need-sub-form-pair
-sub-form-pair c = search needs
+mul-start : tie.Need-mul-start
+mul-start c = search needs
 
-part-form-pair-start : tie.Need-part-form-pair-start
-part-form-pair-start c = search needs
+add-end : tie.Need-add-end
+add-end c = search needs
 
-part-form-pair-end : tie.Need-part-form-pair-end
-part-form-pair-end c = search needs
+sub-product : tie.Need-sub-product
+sub-product c = search needs
 
-sub-form-pair-2 : tie.Need-sub-form-pair-2
-sub-form-pair-2 c = search needs
+part-product-start : tie.Need-part-product-start
+part-product-start c = search needs
 
-part-form-pair-start-2 : tie.Need-part-form-pair-start-2
-part-form-pair-start-2 c = search needs
+part-product-end : tie.Need-part-product-end
+part-product-end c = search needs
 
-part-form-pair-end-2 : tie.Need-part-form-pair-end-2
-part-form-pair-end-2 c = search needs
+sub-product-2 : tie.Need-sub-product-2
+sub-product-2 c = search needs
 
-sub-form-pair-3 : tie.Need-sub-form-pair-3
-sub-form-pair-3 c = search needs
+part-product-start-2 : tie.Need-part-product-start-2
+part-product-start-2 c = search needs
 
-part-form-pair-start-3 : tie.Need-part-form-pair-start-3
-part-form-pair-start-3 c = search needs
+part-product-end-2 : tie.Need-part-product-end-2
+part-product-end-2 c = search needs
 
-part-form-pair-end-3 : tie.Need-part-form-pair-end-3
-part-form-pair-end-3 c = search needs
+sub-product-3 : tie.Need-sub-product-3
+sub-product-3 c = search needs
 
-sub-form-pair-4 : tie.Need-sub-form-pair-4
-sub-form-pair-4 c = search needs
+part-product-start-3 : tie.Need-part-product-start-3
+part-product-start-3 c = search needs
 
-part-form-pair-start-4 : tie.Need-part-form-pair-start-4
-part-form-pair-start-4 c = search needs
+part-product-end-3 : tie.Need-part-product-end-3
+part-product-end-3 c = search needs
 
-part-form-pair-end-4 : tie.Need-part-form-pair-end-4
-part-form-pair-end-4 c = omega (arith, placed-inside (second (c .before .before .before .before .before .before .before .before .before .before)) .1)
+sub-product-4 : tie.Need-sub-product-4
+sub-product-4 c = search needs
 
-form-pair-requires : tie.Need-form-pair-requires
-form-pair-requires c κs =
+part-product-start-4 : tie.Need-part-product-start-4
+part-product-start-4 c = search needs
+
+part-product-end-4 : tie.Need-part-product-end-4
+part-product-end-4 c = omega (arith, placed-inside (second (c .before .before .before .before .before .before .before .before .before .before)) .1)
+
+mul-product : tie.Need-mul-product
+mul-product c = search needs
+
+sub-product-5 : tie.Need-sub-product-5
+sub-product-5 c = search needs
+
+part-product-start-5 : tie.Need-part-product-start-5
+part-product-start-5 c = search needs
+
+part-product-end-5 : tie.Need-part-product-end-5
+part-product-end-5 c = search needs
+
+mul-product-2 : tie.Need-mul-product-2
+mul-product-2 c = omega (arith, c .before .before .before .before .before .before .before .before .before .before .before .before .before .before .before .before .before .before .before .before .before .before .before .before .before .before .before .before .before .before .before .pre .0 .inside)
+
+sub-product-6 : tie.Need-sub-product-6
+sub-product-6 c = search needs
+
+part-product-start-6 : tie.Need-part-product-start-6
+part-product-start-6 c = search needs
+
+part-product-end-6 : tie.Need-part-product-end-6
+part-product-end-6 c = let ready = c .before .before .before .before .before .before .before .before .before .before .before .before .before .before .before .before .before .before .before .before .before .before .before .before .before .before .before .before .before .before .before .pre .0 in omega (arith, ready .inside, ready .coefficients-room)
+
+product-requires : tie.Need-product-requires
+product-requires c κs =
     let d = c .before .before .before .before .before .before .before .before .before .before .before .before .before in
     let s = d .before .before .before .before .before .before .before .before .before .before .before .before .before .before .before .before .before .before .before in
+    let ready = s .pre .0 in
+    let h = children s in
     let f = first d in
     let g = second d in
-    let h = children s in
-    let ready = s .pre .0 in
-    let is = operands (ready .keeps) (s .args .a) (s .args .b) (h .0) (h .1) f g in
-    (placed-held f, (placed-held g, (pair-low (kept s) (s .args .multiply) (s .args .a) (s .args .b) is (ready .low), (pair-light (kept s) (s .args .multiply) (s .args .a) (s .args .b) is (ready .light), (ready .inside, (ready .words-room, ready .coefficients-room))))))
+    let is = operand-is (ready .keeps) (s .args .a) (h .0) f in
+    let is' = operand-is (ready .keeps) (s .args .b) (h .1) g in (
+      record {
+        first = placed-held f;
+        second = placed-held g;
+        low = factors-low (kept s) (s .args .a) (s .args .b) is is' (ready .low);
+        light = factors-light (kept s) (s .args .a) (s .args .b) is is' (ready .light);
+      },
+      lent-room (s .args .i) (s .args .patterns .now) (s .args .coefficients .now) (omega arith) (omega arith),
+    )
 
 same-length : tie.Need-same-length
 same-length c = search needs
@@ -131,10 +169,12 @@ returns c =
     let d = c .before .before .before .before .before .before .before .before .before .before .before .before .before .before .before .before .before in
     let s = d .before .before .before .before .before .before .before .before .before .before .before .before .before .before .before .before .before .before .before in
     let h = children s in
-    renamed (pair-formed (kept s) (s .args .multiply) (s .args .a) (s .args .b) (operands (s .pre .0 .keeps) (s .args .a) (s .args .b) (h .0) (h .1) (first d) (second d))) (c .before .before .before .form-pair .ensures)
+    let call = c .before .before .before .product in
+    let is = factors-formed (kept s) (s .args .a) (s .args .b) (operand-is (s .pre .0 .keeps) (s .args .a) (h .0) (first d)) (operand-is (s .pre .0 .keeps) (s .args .b) (h .1) (second d)) in
+    formed-at (s .args .i) _ (s .args .patterns .now) (s .args .coefficients .now) (omega arith) (omega arith) is _ _ _ (call .kept .1 .1 .1 .1 .0) (call .kept .1 .1 .1 .1 .1 .0) (call .ensures)
 
-pub form-by-spec : {M : Type 1} → statement M
-form-by-spec =
+pub product-by-spec : {M : Type 1} → statement M
+product-by-spec =
     tie.close
     (tie.spec
     mul-n
@@ -143,19 +183,29 @@ form-by-spec =
     shared-slice-read-m
     copy-operand-requires
     copy-operand-requires-2
-    sub-form-pair
-    part-form-pair-start
-    part-form-pair-end
-    sub-form-pair-2
-    part-form-pair-start-2
-    part-form-pair-end-2
-    sub-form-pair-3
-    part-form-pair-start-3
-    part-form-pair-end-3
-    sub-form-pair-4
-    part-form-pair-start-4
-    part-form-pair-end-4
-    form-pair-requires
+    mul-start
+    add-end
+    sub-product
+    part-product-start
+    part-product-end
+    sub-product-2
+    part-product-start-2
+    part-product-end-2
+    sub-product-3
+    part-product-start-3
+    part-product-end-3
+    sub-product-4
+    part-product-start-4
+    part-product-end-4
+    mul-product
+    sub-product-5
+    part-product-start-5
+    part-product-end-5
+    mul-product-2
+    sub-product-6
+    part-product-start-6
+    part-product-end-6
+    product-requires
     same-length
     same-length-2
     same-length-3
