@@ -1,7 +1,7 @@
--- A sum of one term times another: its row is the product. And what the loop of `multiply` keeps: the row stands in the part of node i, as far as it is done.
+-- What the loop of `multiply` keeps: the row stands in the part of node i, as far as it is done.
 use mathlib.Core.Path.{_≡_, refl, sym, _∙_, ap, ap₂, subst}
 use mathlib.Core.Bool.{not}
-use mathlib.Core.List.{List, [], _∷_, _++_, append-nil, map-append}
+use mathlib.Core.List.{List, [], _∷_, _++_, map-append}
 use Prim.Native.Nat.{ℕ, zero, suc, _+_, _*_, _≤_, _<_}
 use native.Mathlib.Omega.{arith}
 use native.Mathlib.Nat.{add-zero, mul-le-mul}
@@ -14,49 +14,25 @@ use mir.Syntax.{w64}
 use mir.Val.{SFits}
 use Rattle.algebra.specs.Limits.{variables, largestDegree, mostTerms, largestWeight}
 use Rattle.algebra.specs.Pattern.{times, degree}
-use Rattle.algebra.specs.Sum.{Term, term, Sum, isZero, inOrder, noZero, degreeOf, weight}
-use Rattle.algebra.specs.Collect.{gather, dropZeros, collect}
-use Rattle.algebra.specs.Arithmetic.{timesTerm, row, pairs, _⊗_, productSpread}
+use Rattle.algebra.specs.Sum.{Term, term, Sum, isZero, noZero, degreeOf, weight}
+use Rattle.algebra.specs.Arithmetic.{timesTerm, row, _⊗_, productSpread}
 use Rattle.algebra.specs.Word.{word, exponents, Valid}
 use Rattle.algebra.specs.Held.{wordFor, wordsOf, coefficientsOf}
-use Rattle.algebra.proofs.Numbers.Absolute.{abs-mul, times-some}
-use Rattle.algebra.proofs.Numbers.Test.{and}
+use Rattle.algebra.proofs.Numbers.Absolute.{abs-mul}
 use Rattle.algebra.proofs.Patterns.Laws.{times-length}
 use Rattle.algebra.proofs.Patterns.Word.{exponents-length}
-use Rattle.algebra.proofs.Sums.Every.{Every, Long}
 use Rattle.algebra.proofs.Sums.Held.{word-for, terms-long}
-use Rattle.algebra.proofs.Sums.Occurs.{spread-gather}
-use Rattle.algebra.proofs.Sums.Ordered.{full-head, full-tail, row-order, gather-fixed, drop-fixed}
+use Rattle.algebra.proofs.Sums.Ordered.{full-head}
 use Rattle.answers.proofs.Signed.{fits-abs}
 use Rattle.sums.specs.Formed.{Formed.formed}
 use Rattle.sums.proofs.MakeRow.{row-length, row-at}
 use Rattle.sums.proofs.Merging.{none}
+use Rattle.sums.proofs.OneTerm.{term-product, term-spread}
 use Rattle.nodes.specs.Work.{FormedAt}
 use Rattle.nodes.specs.Direct.{sumIn, Operand, Place}
 use Rattle.nodes.proofs.Forwards.{Forwards, begins, again, kept}
 use Rattle.nodes.proofs.Merges.{formed-there}
 use Rattle.nodes.proofs.Operands.{There, there, terms-are, strict, full, term-is, valid-at, light-at, low-at}
-
--- ---- The row of one term.
-
-row-full : (u : Term) (t : Sum) → T (not (isZero (u .coefficient))) → T (noZero t) → T (noZero (row u t))
-unfolding row noZero
-row-full u [] h f = tt
-row-full u (v ∷ t) h f =
-    and (not (isZero (u .coefficient *ℤ v .coefficient))) (noZero (row u t)) (times-some (u .coefficient) (v .coefficient) h (full-head v t f)) (row-full u t h (full-tail v t f))
-
-module _ (u : Term) (t : Sum) (long : length (u .pattern) ≡ variables) (each : Every (Long variables) t) (k : T (inOrder t)) where
-  gathered : gather (pairs (u ∷ []) t) ≡ row u t
-  unfolding pairs
-  gathered = ap gather (append-nil (row u t)) ∙ gather-fixed (row u t) (row-order variables u t long each k)
-
-  pub term-product : T (not (isZero (u .coefficient))) → T (noZero t) → (u ∷ []) ⊗ t ≡ row u t
-  unfolding _⊗_ collect
-  term-product h f = ap dropZeros gathered ∙ drop-fixed (row u t) (row-full u t h f)
-
-  pub term-spread : productSpread (u ∷ []) t ≡ length t
-  unfolding productSpread
-  term-spread = spread-gather (pairs (u ∷ []) t) ∙ ap length gathered ∙ row-length u t
 
 -- ---- What the loop keeps.
 

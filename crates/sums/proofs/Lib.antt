@@ -18,6 +18,7 @@ pub mod Multiplying
 pub mod Pairing
 pub mod Clearing
 pub mod Raising
+pub mod OneTerm
 pub mod TwoTerms
 pub mod Stepping
 pub mod Wording

@@ -148,17 +148,6 @@ module _ {sp : List ℕ} {sc : List ℤ} {e : ℕ} (base : Base sp sc e) (two : 
   word-is : (i : ℕ) → i < length sp → wordFor (exponents (getD sp i 0)) ≡ getD sp i 0
   word-is i h = word-for (exponents (getD sp i 0)) (exponents-length (getD sp i 0)) ∙ each-valid (base .held) i h .is
 
-  pub word-small : (i : ℕ) → i < length sp → e * getD sp i 0 < 2 ^ 64
-  unfolding word
-  word-small i h =
-      let w = getD sp i 0 in
-      let most = word-most fieldSize (omega arith) 7 (exponents w) (omega (arith, exponents-length w)) in
-      let is : wordOf fieldSize (exponents w) ≡ w = each-valid (base .held) i h .is in
-      let at-most : w ≤ degree (exponents w) * fieldSize ^ 7 = omega (arith, most, is) in
-      let as-often = mul-le-mul-left e at-most in
-      let low = mul-le-mul-left e (degree-at (base .held) i h) in
-      omega (arith, as-often, low, base .low)
-
   pub answered : {cs₀ cs : List ℤ} {k : ℕ} → Raised cs₀ cs k → e ≤ k → (ds : List ℕ) (area : List ℤ) {ps : List ℕ} → ps ≡ written (mixed (getD sp 0 0) (getD sp 1 0) e 0) ds
       → cs₀ ≡ written sc area → (formed (e + 1), ps, cs) ≡ formedInto (powerOf s e) ds area
   unfolding powerOf formedInto

@@ -28,7 +28,7 @@ integer-some n c other = rw other
 
 module _ (ws : List ℕ) (cs : List ℤ) where
   -- one term is stored
-  one-term : mostTerms ≤ length ws → mostTerms ≤ length cs → (t : Term) → length (t .pattern) ≡ variables → (w : ℕ) (c : ℤ) → w ≡ word (t .pattern) → c ≡ t .coefficient
+  pub one-term : mostTerms ≤ length ws → mostTerms ≤ length cs → (t : Term) → length (t .pattern) ≡ variables → (w : ℕ) (c : ℤ) → w ≡ word (t .pattern) → c ≡ t .coefficient
       → (formed 1, set ws 0 w, set cs 0 c) ≡ formedInto (formed (t ∷ [])) ws cs
   one-term words-room coefficients-room t long w c word-is coefficient-is =
       stored-into 1 (stored-next (stored-none ws cs) t 0 w c refl (omega arith) (omega arith) (word-is ∙ sym (word-for (t .pattern) long)) coefficient-is) refl

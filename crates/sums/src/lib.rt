@@ -14,6 +14,7 @@ ghost use Rattle.sums.specs.Formed.{formedOf, Formed.formed, sumOf, prod
 ghost use Rattle.sums.specs.Rows.{RoomFor};
 
 mod binomial;
+mod monomial;
 pub mod rows;
 
 // What forming a sum answers.
@@ -189,6 +190,10 @@ pub fn power(
 {
     if e == 0 {
         return integer(1, patterns, coefficients);
+    }
+    if sp.len() == 1 {
+        monomial::raise(sp, sc, e, patterns, coefficients);
+        return Formed::Terms(1);
     }
     if sp.len() == 2 {
         binomial::raise(sp, sc, e as usize, patterns, coefficients);

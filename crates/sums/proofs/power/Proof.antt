@@ -43,9 +43,6 @@ raise-requires c κs =
     let pre = c .before .before .before .before .before .before .pre in
     (pre .0, (c .before .before .if2 .taken, (omega (arith, c .before .before .before .if1 .left), pre .1)))
 
-add-t26 : tie.Need-add-t26 Inv-loop μ-loop
-add-t26 c = record { fits = omega (arith, few (c .before .before .before .before .before .before .before .before .before .before .pre .0) (c .before .before .before .before .before .before .if2 .taken)) }
-
 same-length-3 : tie.Need-same-length-3 Inv-loop μ-loop
 same-length-3 c = search needs
 
@@ -54,6 +51,23 @@ same-length-4 c = search needs
 
 returns-2 : tie.Need-returns-2 Inv-loop μ-loop
 returns-2 c = c .before .before .before .raise .ensures
+
+raise-requires-2 : tie.Need-raise-requires-2 Inv-loop μ-loop
+raise-requires-2 c κs =
+    let pre = c .before .before .before .before .before .before .before .pre in
+    (pre .0, (c .before .before .if3 .taken, (omega (arith, c .before .before .before .before .if1 .left), pre .1)))
+
+add-t31 : tie.Need-add-t31 Inv-loop μ-loop
+add-t31 c = record { fits = omega (arith, few (c .before .before .before .before .before .before .before .before .before .before .before .pre .0) (c .before .before .before .before .before .before .if3 .taken)) }
+
+same-length-5 : tie.Need-same-length-5 Inv-loop μ-loop
+same-length-5 c = search needs
+
+same-length-6 : tie.Need-same-length-6 Inv-loop μ-loop
+same-length-6 c = search needs
+
+returns-3 : tie.Need-returns-3 Inv-loop μ-loop
+returns-3 c = c .before .before .before .raise2 .ensures
 
 slice-aggregate-copy-words : tie.Need-slice-aggregate-copy-words Inv-loop μ-loop
 slice-aggregate-copy-words c = search needs
@@ -65,15 +79,15 @@ slice-aggregate-copy-coefficients : tie.Need-slice-aggregate-copy-coefficients I
 slice-aggregate-copy-coefficients c = search needs
 
 copy-coefficients-requires : tie.Need-copy-coefficients-requires Inv-loop μ-loop
-copy-coefficients-requires c κs = let base = c .before .before .before .before .before .before .before .before .pre .0 .held in (base .few, omega (arith, as-many base))
+copy-coefficients-requires c κs = let base = c .before .before .before .before .before .before .before .before .before .pre .0 .held in (base .few, omega (arith, as-many base))
 
 loop-holds : tie.Need-loop-holds Inv-loop μ-loop
 loop-holds c =
-    let pre = c .before .before .before .before .before .before .before .before .before .before .pre in
+    let pre = c .before .before .before .before .before .before .before .before .before .before .before .pre in
     let words = c .before .before .before .before .copy-words in
     let coefficients = c .before .copy-coefficients in
     let copied = front-copied (pre .0 .held) (replicate mostTerms 0) (replicate mostTerms (pos 0)) (words .ensures) (coefficients .ensures) (sym (words .kept .0)) (sym (coefficients .kept .0)) in
-    start _ _ (pre .0 .held) (pre .0 .low) (pre .0 .light) (c .before .before .before .before .before .before .before .if1 .left) copied refl refl
+    start _ _ (pre .0 .held) (pre .0 .low) (pre .0 .light) (c .before .before .before .before .before .before .before .before .if1 .left) copied refl refl
 
 sub-product : tie.Need-sub-product Inv-loop μ-loop
 sub-product c = search needs
@@ -119,8 +133,8 @@ enum-known-formed c = search needs
 enum-told : tie.Need-enum-told Inv-loop μ-loop
 enum-told c = search needs
 
-returns-3 : tie.Need-returns-3 Inv-loop μ-loop
-returns-3 c =
+returns-4 : tie.Need-returns-4 Inv-loop μ-loop
+returns-4 c =
     let loop = c .before .before .before .before .before .before .before .before .before .before .before .before .loop in
     let r = c .before .before .before .before .product in
     stops (loop .inv) (c .before .before .before .before .before .before .before .before .before .before .before .loop-test .taken) (sub-zero (loop .n)) (r .result) (r .ensures) (c .before .match .keys2) _ _
@@ -143,7 +157,7 @@ slice-aggregate-copy-words-2 c = search needs
 copy-words-requires-2 : tie.Need-copy-words-requires-2 Inv-loop μ-loop
 copy-words-requires-2 c κs =
     let f = c .before .before .before .loop .inv .so-far in
-    (omega (arith, front-few f, c .before .before .before .before .before .before .before .before .before .before .before .before .before .before .pre .1 .words), omega (arith, front-few f, f .words-room))
+    (omega (arith, front-few f, c .before .before .before .before .before .before .before .before .before .before .before .before .before .before .before .pre .1 .words), omega (arith, front-few f, f .words-room))
 
 slice-aggregate-copy-coefficients-2 : tie.Need-slice-aggregate-copy-coefficients-2 Inv-loop μ-loop
 slice-aggregate-copy-coefficients-2 c = search needs
@@ -151,16 +165,16 @@ slice-aggregate-copy-coefficients-2 c = search needs
 copy-coefficients-requires-2 : tie.Need-copy-coefficients-requires-2 Inv-loop μ-loop
 copy-coefficients-requires-2 c κs =
     let f = c .before .before .before .before .before .before .before .before .loop .inv .so-far in
-    (omega (arith, front-few f, c .before .before .before .before .before .before .before .before .before .before .before .before .before .before .before .before .before .before .before .pre .1 .coefficients), omega (arith, front-few f, f .coefficients-room))
+    (omega (arith, front-few f, c .before .before .before .before .before .before .before .before .before .before .before .before .before .before .before .before .before .before .before .before .pre .1 .coefficients), omega (arith, front-few f, f .coefficients-room))
 
-same-length-5 : tie.Need-same-length-5 Inv-loop μ-loop
-same-length-5 c = search needs
+same-length-7 : tie.Need-same-length-7 Inv-loop μ-loop
+same-length-7 c = search needs
 
-same-length-6 : tie.Need-same-length-6 Inv-loop μ-loop
-same-length-6 c = search needs
+same-length-8 : tie.Need-same-length-8 Inv-loop μ-loop
+same-length-8 c = search needs
 
-returns-4 : tie.Need-returns-4 Inv-loop μ-loop
-returns-4 c = ended (c .before .before .before .before .before .before .before .before .before .before .loop .inv) (c .before .before .before .before .before .before .before .before .before .loop-test .left) _ _ (c .before .before .before .before .before .before .copy-words2 .ensures) (c .before .copy-coefficients2 .ensures)
+returns-5 : tie.Need-returns-5 Inv-loop μ-loop
+returns-5 c = ended (c .before .before .before .before .before .before .before .before .before .before .loop .inv) (c .before .before .before .before .before .before .before .before .before .loop-test .left) _ _ (c .before .before .before .before .before .before .copy-words2 .ensures) (c .before .copy-coefficients2 .ensures)
 
 pub power-spec : {M : Type 1} → statement M
 power-spec =
@@ -173,10 +187,14 @@ power-spec =
     same-length-2
     returns
     raise-requires
-    add-t26
     same-length-3
     same-length-4
     returns-2
+    raise-requires-2
+    add-t31
+    same-length-5
+    same-length-6
+    returns-3
     slice-aggregate-copy-words
     copy-words-requires
     slice-aggregate-copy-coefficients
@@ -193,7 +211,7 @@ power-spec =
     product-requires
     enum-known-formed
     enum-told
-    returns-3
+    returns-4
     add-k
     loop-less
     loop-again
@@ -201,6 +219,6 @@ power-spec =
     copy-words-requires-2
     slice-aggregate-copy-coefficients-2
     copy-coefficients-requires-2
-    same-length-5
-    same-length-6
-    returns-4)
+    same-length-7
+    same-length-8
+    returns-5)

@@ -10,7 +10,8 @@ use mir.Val.{ofZ, toZ}
 use mir.ValLaws.{toZ-ofZ}
 use Rattle.answers.specs.Areas.{written}
 use Rattle.sums.specs.Binomial.{stepped}
-use Rattle.sums.proofs.RaisingTwo.{Runs, as-two, few, begun, start, step-room, step-light, again, word-small, answered}
+use Rattle.sums.proofs.OneTerm.{word-small}
+use Rattle.sums.proofs.RaisingTwo.{Runs, as-two, few, begun, start, step-room, step-light, again, answered}
 use Rattle.sums.proofs.binomial.raise.Statement.{statement}
 use Rattle.sums.proofs.binomial.raise.Tie as tie
 
@@ -90,7 +91,7 @@ words-requires : tie.Need-words-requires Inv-loop μ-loop
 words-requires c κs =
     let pre = c .before .before .before .before .before .before .before .before .before .pre in
     let two = pre .1 .0 in
-    (omega (arith, few (pre .0) two, pre .1 .1 .1 .words), (word-small (pre .0) two 0 (omega (arith, two)), word-small (pre .0) two 1 (omega (arith, two))))
+    (omega (arith, few (pre .0) two, pre .1 .1 .1 .words), (word-small (pre .0) 0 (omega (arith, two)), word-small (pre .0) 1 (omega (arith, two))))
 
 same-length : tie.Need-same-length Inv-loop μ-loop
 same-length c = search needs
