@@ -11,7 +11,7 @@ use lib.Seq.{getD-set-same, getD-set-other}
 use Rattle.algebra.specs.Limits.{variables}
 use Rattle.algebra.specs.Pattern.{Pattern, exponent}
 use Rattle.router.specs.Parts.{Holds, Times}
-use Rattle.router.specs.Powers.{Stands, Row, RowFrom, Rows, Under}
+use Rattle.router.specs.Powers.{stride, Stands, Row, RowFrom, Rows, Under}
 use Rattle.router.proofs.Multiplying.{themselves, next-raised, next-power, no-power}
 
 -- ---- One row.
@@ -66,28 +66,28 @@ module _ {b : ℕ} {a : ℤ} {start : ℕ} {upper₀ : List ℕ} {powers₀ : Li
 
 -- ---- All rows.
 
-pub record Filled (x : List ℤ) (y : List ℕ) (stride : ℕ) (p : Pattern) (upper₀ : List ℕ) (powers₀ : List ℤ) (upper : List ℕ) (powers : List ℤ) (v : ℕ) : Type 0 where
-  pub rows : (u : ℕ) → u < v → Row (getD y u 0) (getD x u (pos 0)) (exponent u p) (u * stride) upper powers
+pub record Filled (x : List ℤ) (y : List ℕ) (p : Pattern) (upper₀ : List ℕ) (powers₀ : List ℤ) (upper : List ℕ) (powers : List ℤ) (v : ℕ) : Type 0 where
+  pub rows : (u : ℕ) → u < v → Row (getD y u 0) (getD x u (pos 0)) (exponent u p) (u * stride upper₀) upper powers
   pub inside : v ≤ variables
   pub upper-long : length upper ≡ length upper₀
   pub powers-long : length powers ≡ length powers₀
 
-pub none-filled : (x : List ℤ) (y : List ℕ) (stride : ℕ) (p : Pattern) (upper : List ℕ) (powers : List ℤ) → Filled x y stride p upper powers upper powers 0
-none-filled x y stride p upper powers = record { rows = λ u h. absurd (omega arith); inside = omega arith; upper-long = refl; powers-long = refl }
+pub none-filled : (x : List ℤ) (y : List ℕ) (p : Pattern) (upper : List ℕ) (powers : List ℤ) → Filled x y p upper powers upper powers 0
+none-filled x y p upper powers = record { rows = λ u h. absurd (omega arith); inside = omega arith; upper-long = refl; powers-long = refl }
 
-module _ {x : List ℤ} {y : List ℕ} {stride : ℕ} {p : Pattern} {upper₀ : List ℕ} {powers₀ : List ℤ} {upper : List ℕ} {powers : List ℤ} {v : ℕ} (f : Filled x y stride p upper₀ powers₀ upper powers v) (low : Under stride p) (more : v < variables) where
+module _ {x : List ℤ} {y : List ℕ} {p : Pattern} {upper₀ : List ℕ} {powers₀ : List ℤ} {upper : List ℕ} {powers : List ℤ} {v : ℕ} (f : Filled x y p upper₀ powers₀ upper powers v) (low : Under (stride upper₀) p) (more : v < variables) where
   -- the row of number v is inside both tables
-  row-inside : v * stride + exponent v p < variables * stride
-  row-inside = omega (arith, low v more, mul-le-mul-right stride more)
+  row-inside : v * stride upper₀ + exponent v p < variables * stride upper₀
+  row-inside = omega (arith, low v more, mul-le-mul-right (stride upper₀) more)
 
-  pub inside-upper : variables * stride ≤ length upper₀ → v * stride + exponent v p < length upper
-  inside-upper room = omega (arith, row-inside, f .upper-long)
+  pub inside-upper : v * stride upper₀ + exponent v p < length upper
+  inside-upper = omega (arith, row-inside, f .upper-long)
 
-  pub inside-powers : variables * stride ≤ length powers₀ → v * stride + exponent v p < length powers
-  inside-powers room = omega (arith, row-inside, f .powers-long)
+  pub inside-powers : length powers₀ ≡ length upper₀ → v * stride upper₀ + exponent v p < length powers
+  inside-powers alike = omega (arith, row-inside, f .powers-long)
 
-  pub row-filled : {upper' : List ℕ} {powers' : List ℤ} → RowFrom (getD y v 0) (getD x v (pos 0)) (exponent v p) (v * stride) upper powers upper' powers'
-      → length upper' ≡ length upper → length powers' ≡ length powers → Filled x y stride p upper₀ powers₀ upper' powers' (v + 1)
+  pub row-filled : {upper' : List ℕ} {powers' : List ℤ} → RowFrom (getD y v 0) (getD x v (pos 0)) (exponent v p) (v * stride upper₀) upper powers upper' powers'
+      → length upper' ≡ length upper → length powers' ≡ length powers → Filled x y p upper₀ powers₀ upper' powers' (v + 1)
   row-filled {upper'} {powers'} r upper-same powers-same = record {
     rows = λ u h. each u h (ℕ-discrete u v);
     inside = omega arith;
@@ -95,18 +95,18 @@ module _ {x : List ℤ} {y : List ℕ} {stride : ℕ} {p : Pattern} {upper₀ : 
     powers-long = powers-same ∙ f .powers-long;
   }
     where
-      each : (u : ℕ) → u < v + 1 → Dec (u ≡ v) → Row (getD y u 0) (getD x u (pos 0)) (exponent u p) (u * stride) upper' powers'
-      each u h (yes eq) = subst (λ (i : ℕ). Row (getD y i 0) (getD x i (pos 0)) (exponent i p) (i * stride) upper' powers') (sym eq) (r .row)
+      each : (u : ℕ) → u < v + 1 → Dec (u ≡ v) → Row (getD y u 0) (getD x u (pos 0)) (exponent u p) (u * stride upper₀) upper' powers'
+      each u h (yes eq) = subst (λ (i : ℕ). Row (getD y i 0) (getD x i (pos 0)) (exponent i p) (i * stride upper₀) upper' powers') (sym eq) (r .row)
       each u h (no ne) = λ e some k.
           let less : u < v = omega (arith, ne) in
           let old = f .rows u less e some k in
-          let before : u * stride + e ≤ v * stride = omega (arith, mul-le-mul-right stride less, low u (omega arith)) in
+          let before : u * stride upper₀ + e ≤ v * stride upper₀ = omega (arith, mul-le-mul-right (stride upper₀) less, low u (omega arith)) in
           record {
             in-upper = omega (arith, old .in-upper);
             in-powers = omega (arith, old .in-powers);
-            power = rw (r .upper-kept (u * stride + e) before, r .powers-kept (u * stride + e) before) (old .power);
+            power = rw (r .upper-kept (u * stride upper₀ + e) before, r .powers-kept (u * stride upper₀ + e) before) (old .power);
           }
 
-pub all-filled : {x : List ℤ} {y : List ℕ} {stride : ℕ} {p : Pattern} {upper₀ : List ℕ} {powers₀ : List ℤ} {upper : List ℕ} {powers : List ℤ} {v : ℕ}
-    → Filled x y stride p upper₀ powers₀ upper powers v → variables ≤ v → Rows x y stride p upper powers
-all-filled f h u k = f .rows u (omega arith)
+pub all-filled : {x : List ℤ} {y : List ℕ} {p : Pattern} {upper₀ : List ℕ} {powers₀ : List ℤ} {upper : List ℕ} {powers : List ℤ} {v : ℕ}
+    → Filled x y p upper₀ powers₀ upper powers v → variables ≤ v → Rows x y p upper powers
+all-filled f h = rw (f .upper-long) (λ u k. f .rows u (omega arith))

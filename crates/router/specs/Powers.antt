@@ -1,13 +1,17 @@
--- Two tables of powers, as the code holds them: the power e of number v stands at place v × stride + e, and the power 0 nowhere.
+-- Two tables of powers, as the code holds them, with a row for each variable: the power e stands at place e of the row, and the power 0 nowhere.
 use mathlib.Core.Path.{_≡_}
 use mathlib.Core.List.{List}
-use Prim.Native.Nat.{ℕ, _+_, _*_, _^_, _≤_, _<_}
+use Prim.Native.Nat.{ℕ, _+_, _*_, _/_, _^_, _≤_, _<_}
 use lib.IntN.{ℤ, pos, pow}
 use lib.ListN.{length, getD}
 use Rattle.algebra.specs.Limits.{variables}
 use Rattle.algebra.specs.Pattern.{Pattern, exponent}
 use Rattle.algebra.specs.Word.{exponents}
 use Rattle.router.specs.Parts.{Holds}
+
+-- the places of a row
+abbrev pub stride : List ℕ → ℕ
+stride upper = length upper / variables
 
 -- at a place of both there is the power e of a raised reading b, and that of the reading a
 pub record Stands (b : ℕ) (a : ℤ) (e place : ℕ) (upper : List ℕ) (powers : List ℤ) : Type 0 where
@@ -26,8 +30,8 @@ pub record RowFrom (b : ℕ) (a : ℤ) (top start : ℕ) (upper₀ : List ℕ) (
   pub powers-kept : (i : ℕ) → i ≤ start → getD powers i (pos 0) ≡ getD powers₀ i (pos 0)
 
 -- the rows of all readings x, raised to y, as far as the exponents of a pattern go
-abbrev pub Rows : List ℤ → List ℕ → ℕ → Pattern → List ℕ → List ℤ → Type 0
-Rows x y stride p upper powers = (v : ℕ) → v < variables → Row (getD y v 0) (getD x v (pos 0)) (exponent v p) (v * stride) upper powers
+abbrev pub Rows : List ℤ → List ℕ → Pattern → List ℕ → List ℤ → Type 0
+Rows x y p upper powers = (v : ℕ) → v < variables → Row (getD y v 0) (getD x v (pos 0)) (exponent v p) (v * stride upper) upper powers
 
 -- each exponent of a pattern is below m
 abbrev pub Under : ℕ → Pattern → Type 0
@@ -38,5 +42,5 @@ abbrev pub Uses : Pattern → List ℕ → Type 0
 Uses p ws = (k : ℕ) → k < length ws → (v : ℕ) → exponent v (exponents (getD ws k 0)) ≤ exponent v p
 
 -- the rows of all readings, as far as any of these patterns goes
-abbrev pub RowsFor : List ℤ → List ℕ → ℕ → List ℕ → List ℕ → List ℤ → Type 0
-RowsFor x y stride ws upper powers = (k : ℕ) → k < length ws → Rows x y stride (exponents (getD ws k 0)) upper powers
+abbrev pub RowsFor : List ℤ → List ℕ → List ℕ → List ℕ → List ℤ → Type 0
+RowsFor x y ws upper powers = (k : ℕ) → k < length ws → Rows x y (exponents (getD ws k 0)) upper powers

@@ -1,13 +1,15 @@
-// Tables of powers, for sums of many terms: the power e of number v stands at place v × stride + e. One table has the raised readings, the other the readings themselves.
+// Tables of powers, for sums of many terms: a row for each variable, with the power e at place e of the row. One table is for the raised readings, the other for the readings themselves.
 use crate::factors;
 use algebra::Pattern;
-ghost use Prim.Native.Nat.{_+_, _*_, _≤_, _<_};
+ghost use mathlib.Core.Path.{_≡_};
+ghost use Prim.Native.Nat.{_+_, _≤_, _<_};
 ghost use lib.IntN.{natAbs};
 ghost use lib.ListN.{length};
-ghost use Rattle.algebra.specs.Limits.{variables};
 ghost use Rattle.algebra.specs.Word.{exponents};
 ghost use Rattle.router.specs.Parts.{Covers};
-ghost use Rattle.router.specs.Powers.{RowFrom, Rows, Under};
+ghost use Rattle.router.specs.Powers.{stride, RowFrom, Rows, Under};
+
+const VARIABLES: usize = Pattern::VARIABLES as usize;
 
 // The powers of one reading from 1 up to `top`, after a place of both tables.
 fn fill_row(
@@ -43,14 +45,13 @@ pub(crate) fn fill(
     readings: &[i64],
     raised: &[u64],
     used: Pattern,
-    stride: usize,
 )
     requires { ⌜ Covers (now readings) (now raised) ⌝ }
-    requires { ⌜ Under stride (exponents (used .0)) ⌝ }
-    requires { ⌜ variables * stride ≤ length (now upper) ⌝ }
-    requires { ⌜ variables * stride ≤ length (now powers) ⌝ }
-    ensures { λ r. ⌜ Rows (now (readings .entry)) (now (raised .entry)) stride (exponents (used .0)) (now (upper .exit)) (now (powers .exit)) ⌝ }
+    requires { ⌜ Under (stride (now upper)) (exponents (used .0)) ⌝ }
+    requires { ⌜ length (now powers) ≡ length (now upper) ⌝ }
+    ensures { λ r. ⌜ Rows (now (readings .entry)) (now (raised .entry)) (exponents (used .0)) (now (upper .exit)) (now (powers .exit)) ⌝ }
 {
+    let stride = upper.len() / VARIABLES;
     let mut v = 0;
     while v < readings.len() {
         let reading = readings[v];

@@ -57,20 +57,20 @@ fn direct_term(c: i64, pattern: Pattern, readings: &[i64], raised: &[u64]) -> Bo
     Both { most, value }
 }
 
-// One term, by tables of powers.
+// One term, by tables of powers: each factor stands there.
 fn tabled_term(
     c: i64,
     pattern: Pattern,
     readings: &[i64],
     raised: &[u64],
-    stride: usize,
     upper: &[u64],
     powers: &[i64],
 ) -> Both
     requires { ⌜ Covers (now readings) (now raised) ⌝ }
-    requires { ⌜ Rows (now readings) (now raised) stride (exponents (pattern .0)) (now upper) (now powers) ⌝ }
+    requires { ⌜ Rows (now readings) (now raised) (exponents (pattern .0)) (now upper) (now powers) ⌝ }
     ensures { λ r. ⌜ Holds (r .most) (r .value) (natAbs c * patternSize (exponents (pattern .0)) (now (raised .entry))) (c *ℤ patternValue (exponents (pattern .0)) (now (readings .entry))) ⌝ }
 {
+    let stride = upper.len() / VARIABLES;
     let mut most = numbers::absolute(c);
     let mut value = c;
     let mut v = 0;
@@ -143,13 +143,12 @@ fn tabled_sum(
     coefficients: &[i64],
     readings: &[i64],
     raised: &[u64],
-    stride: usize,
     upper: &[u64],
     powers: &[i64],
 ) -> Parts
     requires { ⌜ length (now coefficients) ≡ length (now patterns) ⌝ }
     requires { ⌜ Covers (now readings) (now raised) ⌝ }
-    requires { ⌜ RowsFor (now readings) (now raised) stride (now patterns) (now upper) (now powers) ⌝ }
+    requires { ⌜ RowsFor (now readings) (now raised) (now patterns) (now upper) (now powers) ⌝ }
     ensures { λ r. ⌜ Keeps (r .most) (r .estimate) (r .plain) (terms (now (patterns .entry)) (now (coefficients .entry))) (now (readings .entry)) (now (raised .entry)) ⌝ }
 {
     let mut most = 0;
@@ -158,15 +157,7 @@ fn tabled_sum(
     let mut k = 0;
     while k < patterns.len() {
         let c = coefficients[k];
-        let term = tabled_term(
-            c,
-            Pattern(patterns[k]),
-            readings,
-            raised,
-            stride,
-            upper,
-            powers,
-        );
+        let term = tabled_term(c, Pattern(patterns[k]), readings, raised, upper, powers);
         let more = added(most, estimate, plain, term.most, term.value);
         if more.most > LARGEST_WEIGHT {
             return more;
@@ -209,37 +200,6 @@ fn largest_exponent(pattern: Pattern) -> u64
     most
 }
 
-// The tables are filled as far as they are used, and then used.
-fn fill_and_use(
-    patterns: &[u64],
-    coefficients: &[i64],
-    readings: &[i64],
-    raised: &[u64],
-    used: Pattern,
-    stride: usize,
-    upper: &mut [u64],
-    powers: &mut [i64],
-) -> Parts
-    requires { ⌜ length (now coefficients) ≡ length (now patterns) ⌝ }
-    requires { ⌜ Covers (now readings) (now raised) ⌝ }
-    requires { ⌜ Uses (exponents (used .0)) (now patterns) ⌝ }
-    requires { ⌜ Under stride (exponents (used .0)) ⌝ }
-    requires { ⌜ variables * stride ≤ length (now upper) ⌝ }
-    requires { ⌜ variables * stride ≤ length (now powers) ⌝ }
-    ensures { λ r. ⌜ Keeps (r .most) (r .estimate) (r .plain) (terms (now (patterns .entry)) (now (coefficients .entry))) (now (readings .entry)) (now (raised .entry)) ⌝ }
-{
-    powers::fill(upper, powers, readings, raised, used, stride);
-    tabled_sum(
-        patterns,
-        coefficients,
-        readings,
-        raised,
-        stride,
-        upper,
-        powers,
-    )
-}
-
 // All terms. For a few of them tables would take longer to fill than they save.
 pub(crate) fn sum_parts(
     patterns: &[u64],
@@ -257,30 +217,14 @@ pub(crate) fn sum_parts(
         if largest < NARROW {
             let mut upper = [0u64; NARROW_PLACES];
             let mut powers = [0i64; NARROW_PLACES];
-            return fill_and_use(
-                patterns,
-                coefficients,
-                readings,
-                raised,
-                used,
-                NARROW,
-                &mut upper,
-                &mut powers,
-            );
+            powers::fill(&mut upper, &mut powers, readings, raised, used);
+            return tabled_sum(patterns, coefficients, readings, raised, &upper, &powers);
         }
         if largest < WIDE {
             let mut upper = [0u64; WIDE_PLACES];
             let mut powers = [0i64; WIDE_PLACES];
-            return fill_and_use(
-                patterns,
-                coefficients,
-                readings,
-                raised,
-                used,
-                WIDE,
-                &mut upper,
-                &mut powers,
-            );
+            powers::fill(&mut upper, &mut powers, readings, raised, used);
+            return tabled_sum(patterns, coefficients, readings, raised, &upper, &powers);
         }
     }
     direct_sum(patterns, coefficients, readings, raised)

@@ -7,18 +7,19 @@ use mir.Syntax.{w64}
 use mir.ValLaws.{toZ-ofZ}
 use Rattle.algebra.specs.Limits.{variables}
 use Rattle.algebra.specs.Word.{exponents}
+use Rattle.router.specs.Powers.{stride}
 use Rattle.router.proofs.Tabling.{Filled, none-filled, inside-upper, inside-powers, row-filled, all-filled}
 use Rattle.router.proofs.powers.fill.Statement.{statement}
 use Rattle.router.proofs.powers.fill.Tie as tie
 
 abbrev Inv-loop : tie.InvT-loop
-Inv-loop upper₀ powers₀ readings raised used stride v₀ upper powers v = Filled readings raised stride (exponents (used .0)) upper₀ powers₀ upper powers v
+Inv-loop upper₀ powers₀ readings raised used stride v₀ upper powers v = Filled readings raised (exponents (used .0)) upper₀ powers₀ upper powers v
 
 abbrev μ-loop : tie.MeasureT-loop
 μ-loop upper₀ powers₀ readings raised used stride v₀ upper powers v = variables - v
 
 loop-holds : tie.Need-loop-holds Inv-loop μ-loop
-loop-holds c = none-filled _ _ _ _ _ _
+loop-holds c = none-filled _ _ _ _ _
 
 mul-reading : tie.Need-mul-reading Inv-loop μ-loop
 mul-reading c = search needs
@@ -35,16 +36,16 @@ module _ (d : tie.After-exponent Inv-loop μ-loop) where
   first = d .before .before .before .before .before .before
 
   abbrev place : ℕ
-  place = d .before .before .before .loop .v * first .args .stride + d .exponent .result
+  place = d .before .before .before .loop .v * stride (first .args .upper .now) + d .exponent .result
 
   more : d .before .before .before .loop .v < variables
   more = omega (arith, first .pre .0 .readings-long, d .before .before .loop-test .taken)
 
   in-upper : place < length (d .before .before .before .loop .upper)
-  in-upper = omega (arith, d .exponent .ensures, inside-upper (d .before .before .before .loop .inv) (first .pre .1 .0) more (first .pre .1 .1 .0))
+  in-upper = omega (arith, d .exponent .ensures, inside-upper (d .before .before .before .loop .inv) (first .pre .1 .0) more)
 
   in-powers : place < length (d .before .before .before .loop .powers)
-  in-powers = omega (arith, d .exponent .ensures, inside-powers (d .before .before .before .loop .inv) (first .pre .1 .0) more (first .pre .1 .1 .1))
+  in-powers = omega (arith, d .exponent .ensures, inside-powers (d .before .before .before .loop .inv) (first .pre .1 .0) more (first .pre .1 .1))
 
 mul-fill-row : tie.Need-mul-fill-row Inv-loop μ-loop
 mul-fill-row c = let h = in-upper (c .before .before) in search needs

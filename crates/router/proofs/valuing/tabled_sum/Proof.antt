@@ -15,10 +15,10 @@ use Rattle.router.proofs.valuing.tabled_sum.Statement.{statement}
 use Rattle.router.proofs.valuing.tabled_sum.Tie as tie
 
 abbrev Inv-loop : tie.InvT-loop
-Inv-loop patterns coefficients readings raised stride upper powers most₀ estimate₀ plain₀ k₀ most estimate plain k = Adding patterns coefficients readings raised most (toZ w64 estimate) plain k
+Inv-loop patterns coefficients readings raised upper powers most₀ estimate₀ plain₀ k₀ most estimate plain k = Adding patterns coefficients readings raised most (toZ w64 estimate) plain k
 
 abbrev μ-loop : tie.MeasureT-loop
-μ-loop patterns coefficients readings raised stride upper powers most₀ estimate₀ plain₀ k₀ most estimate plain k = length patterns - k
+μ-loop patterns coefficients readings raised upper powers most₀ estimate₀ plain₀ k₀ most estimate plain k = length patterns - k
 
 loop-holds : tie.Need-loop-holds Inv-loop μ-loop
 loop-holds c = start (c .before .before .before .pre .0)
@@ -29,11 +29,11 @@ mul-c c = search needs
 shared-slice-copy-out-c : tie.Need-shared-slice-copy-out-c Inv-loop μ-loop
 shared-slice-copy-out-c c = search needs
 
-mul-t15 : tie.Need-mul-t15 Inv-loop μ-loop
-mul-t15 c = search needs
+mul-t14 : tie.Need-mul-t14 Inv-loop μ-loop
+mul-t14 c = search needs
 
-shared-slice-read-t20 : tie.Need-shared-slice-read-t20 Inv-loop μ-loop
-shared-slice-read-t20 c = search needs
+shared-slice-read-t19 : tie.Need-shared-slice-read-t19 Inv-loop μ-loop
+shared-slice-read-t19 c = search needs
 
 tabled-term-requires : tie.Need-tabled-term-requires Inv-loop μ-loop
 tabled-term-requires c κs =
@@ -91,8 +91,8 @@ tabled-sum-spec =
     loop-holds
     mul-c
     shared-slice-copy-out-c
-    mul-t15
-    shared-slice-read-t20
+    mul-t14
+    shared-slice-read-t19
     tabled-term-requires
     added-requires
     returns
