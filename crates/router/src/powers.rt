@@ -1,4 +1,5 @@
 // Tables of powers, for sums of many terms: a row for each variable, with the power e at place e of the row. One table is for the raised readings, the other for the readings themselves.
+use crate::VARIABLES;
 use crate::factors;
 use algebra::Pattern;
 ghost use mathlib.Core.Path.{_≡_};
@@ -8,8 +9,6 @@ ghost use lib.ListN.{length};
 ghost use Rattle.algebra.specs.Word.{exponents};
 ghost use Rattle.router.specs.Parts.{Covers};
 ghost use Rattle.router.specs.Powers.{stride, RowFrom, Rows, Under};
-
-const VARIABLES: usize = Pattern::VARIABLES as usize;
 
 // The powers of one reading from 1 up to `top`, after a place of both tables.
 fn fill_row(

@@ -1,14 +1,14 @@
 // The value of a sum at the readings, and its raised value, term by term.
+use crate::VARIABLES;
 use crate::factors;
 use crate::factors::Both;
 use crate::powers;
 use algebra::LARGEST_WEIGHT;
 use algebra::Pattern;
 ghost use mathlib.Core.Path.{_≡_};
-ghost use Prim.Native.Nat.{_+_, _*_, _≤_};
+ghost use Prim.Native.Nat.{_+_, _*_};
 ghost use lib.IntN.{natAbs, _*ℤ_};
 ghost use lib.ListN.{length};
-ghost use Rattle.algebra.specs.Limits.{variables};
 ghost use Rattle.algebra.specs.Value.{patternValue};
 ghost use Rattle.algebra.specs.Margin.{patternSize};
 ghost use Rattle.algebra.specs.Word.{exponents, terms};
@@ -17,8 +17,6 @@ ghost use Rattle.router.specs.Powers.{Rows, RowsFor, Under, Uses};
 
 // So many terms are few.
 const FEW_TERMS: usize = 16;
-
-const VARIABLES: usize = Pattern::VARIABLES as usize;
 
 // A row of a table has the powers below 8, or all that a pattern can have.
 const NARROW: usize = 8;
