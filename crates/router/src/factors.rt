@@ -10,7 +10,7 @@ pub struct Both {
     pub value: i64,
 }
 
-// Both multiplied, each by its own.
+// Both multiplied, each by its own. Where the first is too large the second stays as it was, and says nothing.
 pub(crate) fn times(most: u64, value: i64, raised: u64, reading: i64) -> Both
     requires { ⌜ Sound most value ⌝ }
     requires { ⌜ Sound raised reading ⌝ }

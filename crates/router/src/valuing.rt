@@ -172,7 +172,7 @@ fn tabled_sum(
     }
 }
 
-// A pattern whose exponents are no less than those of any of the terms.
+// A pattern that has no smaller exponent than any of the terms: so far the tables are filled.
 fn used_by(patterns: &[u64]) -> Pattern
     ensures { λ r. ⌜ Uses (exponents (r .0)) (now (patterns .entry)) ⌝ }
 {
@@ -198,7 +198,7 @@ fn largest_exponent(pattern: Pattern) -> u64
     most
 }
 
-// All terms. For a few of them tables would take longer to fill than they save.
+// All terms. For a few of them tables would take longer to fill than they save. (No sum that is accepted has an exponent of 64 or more.)
 pub(crate) fn sum_parts(
     patterns: &[u64],
     coefficients: &[i64],
