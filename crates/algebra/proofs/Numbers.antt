@@ -3,6 +3,5 @@ pub mod Test
 pub mod Compare
 pub mod Whole
 pub mod Absolute
-pub mod Powers
 pub mod Solve
 pub mod Signed

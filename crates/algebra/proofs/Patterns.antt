@@ -5,3 +5,4 @@ pub mod Order
 pub mod Fields
 pub mod Word
 pub mod Held
+pub mod Either

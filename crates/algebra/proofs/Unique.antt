@@ -15,6 +15,7 @@ use Rattle.algebra.proofs.Pattern.variables.Reads as variables
 use Rattle.algebra.proofs.Pattern.largest_degree.Reads as largest-degree
 use Rattle.algebra.proofs.Pattern.empty.Reads as empty
 use Rattle.algebra.proofs.Pattern.product.Reads as product
+use Rattle.algebra.proofs.Pattern.either.Reads as either
 use Rattle.algebra.proofs.Pattern.degree.Reads as degree
 use Rattle.algebra.proofs.Pattern.total.Reads as total
 use Rattle.algebra.proofs.Pattern.compare.Reads as compare
@@ -71,6 +72,9 @@ empty-one k a r r' e e' h h' = pattern h h'
 
 pub product-one : One product.Learnt
 product-one k a r r' e e' h h' = pattern h h'
+
+pub either-one : One either.Learnt
+either-one k a r r' e e' h h' = pattern h h'
 
 pub degree-one : One degree.Learnt
 degree-one k a r r' e e' h h' = same h h'

@@ -5,17 +5,17 @@ use Prim.Native.Nat.{ℕ, _+_, _-_, _≤_, _<_}
 use native.Mathlib.Omega.{arith}
 use types.Run.{OneOf}
 use denote.Enum.Declared.{tagOf}
-use lib.IntN.{ℤ, pos, _-ℤ_}
+use lib.IntN.{ℤ, pos}
 use lib.ListN.{length, drop, length-append}
 use lib.Seq.{sets, sets-eq}
 use Rattle.algebra.specs.Limits.{variables, largestWeight}
 use Rattle.algebra.specs.Sum.{Sum}
-use Rattle.algebra.specs.Value.{value}
 use Rattle.algebra.specs.Margin.{size, unsigned, raisedBy, margin}
-use Rattle.algebra.proofs.Sums.Margins.{unsigned-length}
+use Rattle.algebra.proofs.Sums.Margins.{unsigned-length, margin-whole}
 use Rattle.answers.specs.Refusals.{RANGE}
 use Rattle.answers.specs.Judge.{Judged.good, Judged.fails}
 use Rattle.answers.specs.Areas.{written}
+use Rattle.weights.specs.Capped.{capped}
 use Rattle.packed.proofs.Writing.{sets-append}
 use Rattle.router.specs.Bytes.{numberBytes, signedBytes}
 use Rattle.router.specs.Readings.{numbersOf, beforeNegative, measured}
@@ -28,8 +28,6 @@ use Rattle.router.proofs.Found.{the-type}
 use Rattle.router.proofs.Complement.{bytes-length}
 use Rattle.router.proofs.Numbering.{numbers-length}
 use Rattle.router.proofs.Tolerances.{FirstNegative, at-most, first-negative, allowed-are}
-use Rattle.router.proofs.PartsLaws.{value-parts, size-parts}
-use Rattle.router.proofs.Kept.{Exact, kept-within, kept-beyond}
 use Rattle.router.proofs.Estimating.{Long, Given, range-beyond, range-within}
 
 -- ---- Readings and tolerances, read into arrays.
@@ -47,29 +45,30 @@ module _ {readings tolerances : List ℕ} {rs ts : List ℤ} {good : ℕ} (l : L
   pub are-given : variables ≤ good → Given readings tolerances rs (unsigned ts)
   are-given h = record { long = l; readings-are = sym rs-are; tolerances-are = sym ts-are ∙ allowed-are ts (passes h) }
 
--- ---- The sum, taken apart.
+-- ---- What is kept of the sum.
 
-module _ {s : Sum} {rs : List ℤ} (ts : List ℤ) {raised : List ℕ} {r a b : ℕ} (kept : Keeps r a b s rs raised) (raised-is : raised ≡ raisedBy rs (unsigned ts)) where
-  pub beyond : largestWeight < r → judgeRange s (measured rs ts) ≡ fails RANGE 0
-  beyond far = range-beyond s rs (unsigned ts) (rw raised-is at (kept-beyond kept far))
+module _ {s : Sum} {rs : List ℤ} (ts : List ℤ) {raised : List ℕ} {most plain : ℕ} {estimate : ℤ} (kept : Keeps most estimate plain s rs raised) (raised-is : raised ≡ raisedBy rs (unsigned ts)) where
+  abbrev whole : ℕ
+  whole = size s (raisedBy rs (unsigned ts))
 
-  module _ (long : length rs ≡ length ts) (near : r ≤ largestWeight) where
-    pub exact : Exact r a b s rs raised
-    exact = kept-within kept (unsigned ts) (long ∙ sym (unsigned-length ts)) raised-is near
+  most-is : capped most ≡ capped whole
+  most-is = kept .most-is ∙ ap (λ y. capped (size s y)) raised-is
 
-    value-is : value s rs ≡ pos a -ℤ pos b
-    value-is = value-parts s rs ∙ ap₂ (λ (m n : ℕ). pos m -ℤ pos n) (sym (exact .above-is)) (sym (exact .below-is))
+  pub beyond : largestWeight < most → judgeRange s (measured rs ts) ≡ fails RANGE 0
+  beyond far = range-beyond s rs (unsigned ts) (omega (arith, most-is))
 
-    margin-is : margin s rs (unsigned ts) ≡ r - (a + b)
+  module _ (long : length rs ≡ length ts) (near : most ≤ largestWeight) where
+    exact : most ≡ whole
+    exact = omega (arith, most-is)
+
+    pub plain-within : plain ≤ most
+    plain-within = omega (arith, exact, kept .plain-is near, margin-whole s rs (unsigned ts) (long ∙ sym (unsigned-length ts)))
+
+    pub within : {z : ℤ} → z ≡ estimate → judgeRange s (measured rs ts) ≡ good (record { estimate = z; margin = most - plain })
     unfolding margin
-    margin-is =
-        ap₂ (λ (m n : ℕ). m - n) (ap (size s) (sym raised-is) ∙ sym (exact .raised-is)) (size-parts s rs ∙ ap₂ (λ (m n : ℕ). m + n) (sym (exact .above-is)) (sym (exact .below-is)))
-
-    pub within : {z : ℤ} → z ≡ pos a -ℤ pos b → judgeRange s (measured rs ts) ≡ good (record { estimate = z; margin = r - (a + b) })
     within z-is =
-        let near' : size s (raisedBy rs (unsigned ts)) ≤ largestWeight = omega (arith, near, exact .raised-is, ap (size s) raised-is) in
-        range-within s rs (unsigned ts) near'
-        ∙ ap₂ (λ (e : ℤ) (m : ℕ). good (record { estimate = e; margin = m })) (value-is ∙ sym z-is) margin-is
+        range-within s rs (unsigned ts) (omega (arith, exact))
+        ∙ ap₂ (λ (e : ℤ) (m : ℕ). good (record { estimate = e; margin = m })) (sym (z-is ∙ kept .estimate-is near)) (sym (ap₂ (λ (m n : ℕ). m - n) exact (kept .plain-is near)))
 
 -- ---- What was found.
 

@@ -5,12 +5,9 @@ pub mod Numbering
 pub mod Tolerances
 pub mod Passing
 pub mod Raising
-pub mod PartsLaws
-pub mod Tables
-pub mod Kept
-pub mod Turning
+pub mod Multiplying
+pub mod Tabling
 pub mod TermParts
-pub mod Quickly
 pub mod SumParts
 pub mod Estimating
 pub mod Answering

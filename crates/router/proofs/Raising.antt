@@ -11,8 +11,10 @@ use mir.Syntax.{w64}
 use mir.Val.{Fits, SFits}
 use mir.ValLaws.{toZ-ofZ}
 use Rattle.numbers.proofs.Signs.{held}
+use Rattle.algebra.specs.Limits.{variables}
 use Rattle.algebra.specs.Margin.{unsigned, raisedBy}
-use Rattle.algebra.proofs.Sums.Margins.{raised-at}
+use Rattle.algebra.proofs.Sums.Margins.{raised-length, raised-at}
+use Rattle.router.specs.Parts.{Covers}
 use Rattle.router.specs.Readings.{beforeNegative}
 use Rattle.router.proofs.Tolerances.{none-negative}
 
@@ -38,3 +40,10 @@ raised rs ts i inside below allowed f g {a} {b} d e =
       is = sum ∙ sym (raised-at rs ts i inside);
       fits = record { fits = omega (arith, sum, sum-fits r t f g (none-negative ts allowed i below)) };
     }
+
+pub covers : (rs ts : List ℤ) {raised : List ℕ} → length rs ≡ variables → raised ≡ raisedBy rs (unsigned ts) → Covers rs raised
+covers rs ts long is = record {
+  readings-long = long;
+  raised-long = ap length is ∙ raised-length rs (unsigned ts) ∙ long;
+  no-smaller = λ v h. omega (arith, ap (λ y. getD y v 0) is, raised-at rs ts v (omega arith));
+}

@@ -1,43 +1,58 @@
--- A value in two parts: what its terms of 0 or more add up to, and what the others do without their sign.
+-- What the code keeps of a product, and of a sum, at the readings x and at the raised readings y.
 use mathlib.Core.Path.{_≡_}
-use mathlib.Core.Bool.{Bool, true, false}
-use mathlib.Core.List.{List, [], _∷_}
-use Prim.Native.Nat.{ℕ, suc, _+_, _*_, _^_, _≤_}
-use lib.IntN.{ℤ, pos, negsuc, negℤ, natAbs, _*ℤ_, pow}
-use Rattle.algebra.specs.Limits.{largestWeight}
+use mathlib.Core.List.{List}
+use Prim.Native.Nat.{ℕ, _+_, _*_, _^_, _≤_, _<_}
+use lib.IntN.{ℤ, pos, natAbs, _+ℤ_, _*ℤ_, pow}
+use lib.ListN.{length, getD}
+use Rattle.algebra.specs.Limits.{variables, largestWeight}
 use Rattle.algebra.specs.Sum.{Sum}
-use Rattle.algebra.specs.Value.{termValue}
-use Rattle.algebra.specs.Margin.{size}
+use Rattle.algebra.specs.Value.{value}
+use Rattle.algebra.specs.Margin.{size, unsigned}
 use Rattle.weights.specs.Capped.{capped}
 
-abbrev pub overZero : ℤ → ℕ
-overZero (pos n) = n
-overZero (negsuc m) = 0
+-- a reading for each variable, and a raised one that is no smaller
+pub record Covers (x : List ℤ) (y : List ℕ) : Type 0 where
+  pub readings-long : length x ≡ variables
+  pub raised-long : length y ≡ variables
+  pub no-smaller : (v : ℕ) → v < variables → natAbs (getD x v (pos 0)) ≤ getD y v 0
 
-abbrev pub underZero : ℤ → ℕ
-underZero (pos n) = 0
-underZero (negsuc m) = suc m
+-- A raised product m, and the product n at the readings, however large they are: the first as a weight is kept, and the second where the first is allowed.
+pub record Holds (most : ℕ) (product : ℤ) (m : ℕ) (n : ℤ) : Type 0 where
+  pub most-is : capped most ≡ capped m
+  pub product-is : m ≤ largestWeight → product ≡ n
+  pub within : natAbs n ≤ m
 
-unfoldable pub above : Sum → List ℤ → ℕ
-above [] x = 0
-above (t ∷ s) x = overZero (termValue x t) + above s x
+-- two numbers that are kept of some products
+pub record Sound (most : ℕ) (product : ℤ) : Type 0 where
+  pub m : ℕ
+  pub n : ℤ
+  pub holds : Holds most product m n
 
-unfoldable pub below : Sum → List ℤ → ℕ
-below [] x = 0
-below (t ∷ s) x = underZero (termValue x t) + below s x
+-- whatever two pairs are kept of, the third is kept of the products
+abbrev pub Times : ℕ → ℤ → ℕ → ℤ → ℕ → ℤ → Type 0
+Times most product raised reading most' product' =
+    (m m' : ℕ) (n n' : ℤ) → Holds most product m n → Holds raised reading m' n' → Holds most' product' (m * m') (n *ℤ n')
 
--- ---- What the code keeps of a sum, each number as a weight is kept. Once the raised value is too large, the other two do not matter any more.
+-- the same of a pair and of a power of two numbers
+abbrev pub TimesPower : ℕ → ℤ → ℕ → ℤ → ℕ → ℕ → ℤ → Type 0
+TimesPower most product raised reading e most' product' = (m : ℕ) (n : ℤ) → Holds most product m n → Holds most' product' (m * raised ^ e) (n *ℤ pow reading e)
 
-pub record Keeps (raisedValue over under : ℕ) (s : Sum) (readings : List ℤ) (raised : List ℕ) : Type 0 where
-  pub raised-is : raisedValue ≡ capped (size s raised)
-  pub above-is : raisedValue ≤ largestWeight → over ≡ capped (above s readings)
-  pub below-is : raisedValue ≤ largestWeight → under ≡ capped (below s readings)
+-- The raised value of a sum, as a weight is kept; and where it is allowed, the value at the readings, and that with all signs dropped.
+pub record Keeps (most : ℕ) (estimate : ℤ) (plain : ℕ) (s : Sum) (x : List ℤ) (y : List ℕ) : Type 0 where
+  pub most-is : capped most ≡ capped (size s y)
+  pub estimate-is : most ≤ largestWeight → estimate ≡ value s x
+  pub plain-is : most ≤ largestWeight → plain ≡ size s (unsigned x)
 
--- a size, and whether it is that of a negative number
-abbrev pub withSign : Bool → ℕ → ℤ
-withSign false n = pos n
-withSign true n = negℤ (pos n)
+-- ---- One term after another.
 
--- the sign `after` is that of a product which has the factor r ^ e, and without it the sign `before`
-abbrev pub Turns : Bool → Bool → ℤ → ℕ → Type 0
-Turns before after r e = (m : ℕ) → withSign after (m * natAbs r ^ e) ≡ withSign before m *ℤ pow r e
+-- what is kept of the terms so far
+pub record Allowed (most : ℕ) (estimate : ℤ) (plain : ℕ) : Type 0 where
+  pub most-allowed : most ≤ largestWeight
+  pub plain-within : plain ≤ most
+  pub estimate-within : natAbs estimate ≤ plain
+
+-- and with one term more, of which `raised` and `product` are kept
+pub record Added (most : ℕ) (estimate : ℤ) (plain raised : ℕ) (product : ℤ) (most' : ℕ) (estimate' : ℤ) (plain' : ℕ) : Type 0 where
+  pub most-is : capped most' ≡ capped (most + raised)
+  pub estimate-is : most' ≤ largestWeight → estimate' ≡ estimate +ℤ product
+  pub plain-is : most' ≤ largestWeight → plain' ≡ plain + natAbs product

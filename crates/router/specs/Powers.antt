@@ -1,72 +1,46 @@
--- Tables of powers, as the code holds them: the power e of number v stands at place v × stride + e.
+-- Two tables of powers, as the code holds them, with a row for each variable: the power e stands at place e of the row, and the power 0 nowhere.
 use mathlib.Core.Path.{_≡_}
-use mathlib.Core.Bool.{Bool, _&&_}
 use mathlib.Core.List.{List}
-use Prim.Native.Nat.{ℕ, _+_, _*_, _^_, _≤_, _<_}
-use lib.Dec.{leb}
-use lib.IntN.{ℤ, natAbs}
+use Prim.Native.Nat.{ℕ, _+_, _*_, _/_, _^_, _≤_, _<_}
+use lib.IntN.{ℤ, pos, pow}
 use lib.ListN.{length, getD}
-use Rattle.algebra.specs.Limits.{variables, largestWeight}
-use Rattle.algebra.specs.Pattern.{Pattern, degree}
-use Rattle.algebra.specs.Margin.{unsigned}
+use Rattle.algebra.specs.Limits.{variables}
+use Rattle.algebra.specs.Pattern.{Pattern, exponent}
+use Rattle.algebra.specs.Word.{exponents}
+use Rattle.router.specs.Parts.{Holds}
 
--- no number is above m
-abbrev pub EachUpTo : ℕ → List ℕ → Type 0
-EachUpTo m ns = (v : ℕ) → v < length ns → getD ns v 0 ≤ m
+-- the places of a row
+abbrev pub stride : List ℕ → ℕ
+stride upper = length upper / variables
 
--- the powers of a number up to `top` are not above 2^62
-abbrev pub Allowed : ℕ → ℕ → Type 0
-Allowed base top = (e : ℕ) → e ≤ top → base ^ e ≤ largestWeight
+-- at a place of both there is the power e of a raised reading b, and that of the reading a
+pub record Stands (b : ℕ) (a : ℤ) (e place : ℕ) (upper : List ℕ) (powers : List ℤ) : Type 0 where
+  pub in-upper : place < length upper
+  pub in-powers : place < length powers
+  pub power : Holds (getD upper place 0) (getD powers place (pos 0)) (b ^ e) (pow a e)
 
--- a list has the powers of a number, up to `top`, from a place on
-abbrev pub Row : ℕ → ℕ → ℕ → List ℕ → Type 0
-Row start base top t = (e : ℕ) → e ≤ top → getD t (start + e) 0 ≡ base ^ e
+-- the powers from 1 up to `top`, from a place on
+abbrev pub Row : ℕ → ℤ → ℕ → ℕ → List ℕ → List ℤ → Type 0
+Row b a top start upper powers = (e : ℕ) → 0 < e → e ≤ top → Stands b a e (start + e) upper powers
 
--- they were written there, and what stood before that place has stayed
-pub record RowFrom (start base top : ℕ) (t₀ t : List ℕ) : Type 0 where
-  pub powers : Row start base top t
-  pub kept : (i : ℕ) → i < start → getD t i 0 ≡ getD t₀ i 0
+-- they were written there, and what stood up to that place has stayed
+pub record RowFrom (b : ℕ) (a : ℤ) (top start : ℕ) (upper₀ : List ℕ) (powers₀ : List ℤ) (upper : List ℕ) (powers : List ℤ) : Type 0 where
+  pub row : Row b a top start upper powers
+  pub upper-kept : (i : ℕ) → i ≤ start → getD upper i 0 ≡ getD upper₀ i 0
+  pub powers-kept : (i : ℕ) → i ≤ start → getD powers i (pos 0) ≡ getD powers₀ i (pos 0)
 
--- the rows of the first n numbers
-abbrev pub Rows : ℕ → ℕ → List ℕ → ℕ → List ℕ → Type 0
-Rows stride top numbers n t = (v : ℕ) → v < n → Row (v * stride) (getD numbers v 0) top t
+-- the rows of all readings x, raised to y, as far as the exponents of a pattern go
+abbrev pub Rows : List ℤ → List ℕ → Pattern → List ℕ → List ℤ → Type 0
+Rows x y p upper powers = (v : ℕ) → v < variables → Row (getD y v 0) (getD x v (pos 0)) (exponent v p) (v * stride upper) upper powers
 
--- the powers of one number, as far as they are allowed: up to `top`, which is at most `degree`
-pub record Bounds (base degree top : ℕ) (t : List ℕ) : Type 0 where
-  pub powers : Row 0 base top t
-  pub allowed : Allowed base top
-  pub inside : top ≤ degree
+-- each exponent of a pattern is below m
+abbrev pub Under : ℕ → Pattern → Type 0
+Under m p = (v : ℕ) → v < variables → exponent v p < m
 
--- A term whose products can be formed without a test, at readings x and raised readings y: the tables have the powers of both, without signs, as far as its degree goes, and even at the `limit` of all of
--- these numbers the term is not above 2^62.
-pub record Quick (c : ℤ) (p : Pattern) (x : List ℤ) (y : List ℕ) (stride : ℕ) (most plain : List ℕ) : Type 0 where
-  pub top : ℕ
-  pub limit : ℕ
-  pub low : degree p ≤ top
-  pub light : natAbs c * limit ^ degree p ≤ largestWeight
-  pub some : 1 ≤ limit
-  pub raised-up : EachUpTo limit y
-  pub plain-up : EachUpTo limit (unsigned x)
-  pub raised-rows : Rows stride top y variables most
-  pub plain-rows : Rows stride top (unsigned x) variables plain
-  pub narrow : top < stride
-  pub raised-room : variables * stride ≤ length most
-  pub plain-room : variables * stride ≤ length plain
+-- none of the patterns that words hold has a larger exponent than p
+abbrev pub Uses : Pattern → List ℕ → Type 0
+Uses p ws = (k : ℕ) → k < length ws → (v : ℕ) → exponent v (exponents (getD ws k 0)) ≤ exponent v p
 
--- What the tables of a sum hold, whatever its terms are: the powers of `limit` up to `top`, and those of the raised readings and of the readings without signs, none of which is above the limit.
-pub record Tables (x : List ℤ) (y : List ℕ) (stride top : ℕ) (bounds most plain : List ℕ) : Type 0 where
-  pub limit : ℕ
-  pub powers : Row 0 limit top bounds
-  pub bounds-room : top < length bounds
-  pub some : 1 ≤ limit
-  pub raised-up : EachUpTo limit y
-  pub plain-up : EachUpTo limit (unsigned x)
-  pub raised-rows : Rows stride top y variables most
-  pub plain-rows : Rows stride top (unsigned x) variables plain
-  pub narrow : top < stride
-  pub raised-room : variables * stride ≤ length most
-  pub plain-room : variables * stride ≤ length plain
-
--- the test for a term
-abbrev pub isQuick : ℤ → Pattern → ℕ → List ℕ → Bool
-isQuick c p top bounds = leb (degree p) top && leb (natAbs c * getD bounds (degree p) 0) largestWeight
+-- the rows of all readings, as far as any of these patterns goes
+abbrev pub RowsFor : List ℤ → List ℕ → List ℕ → List ℕ → List ℤ → Type 0
+RowsFor x y ws upper powers = (k : ℕ) → k < length ws → Rows x y (exponents (getD ws k 0)) upper powers

@@ -20,6 +20,7 @@ ghost use Rattle.router.specs.Estimate.{judgeRange, judgeTerms, answerBy
 ghost use Rattle.router.specs.Found.{foundOf};
 
 mod bytes;
+mod factors;
 mod powers;
 mod readings;
 mod valuing;
@@ -44,7 +45,7 @@ enum Found {
     Beyond,
 }
 
-// The sum that two slices hold, at readings whose tolerances are not negative. The raised value is at least as large as the two parts together.
+// The sum that two slices hold, at readings whose tolerances are not negative. The raised value is at least as large as the value with all signs dropped.
 fn estimate_at(
     patterns: &[u64],
     coefficients: &[i64],
@@ -63,9 +64,8 @@ fn estimate_at(
     if parts.most > LARGEST_WEIGHT {
         return Found::Beyond;
     }
-    let estimate = valuing::difference(parts.above, parts.below);
-    let plain = parts.above + parts.below;
-    let margin = parts.most - plain;
+    let margin = parts.most - parts.plain;
+    let estimate = parts.estimate;
     Found::Within(estimate, margin)
 }
 

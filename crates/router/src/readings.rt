@@ -33,16 +33,3 @@ pub(crate) fn raise(readings: &[i64], tolerances: &[i64], raised: &mut [u64])
         v += 1;
     }
 }
-
-// Each reading without its sign.
-pub(crate) fn drop_signs(readings: &[i64], sizes: &mut [u64])
-    requires { ⌜ length (now readings) ≡ length (now sizes) ⌝ }
-    ensures { λ r. ⌜ now (sizes .exit) ≡ unsigned (now (readings .entry)) ⌝ }
-{
-    let mut v = 0;
-    while v < sizes.len() {
-        let reading = readings[v];
-        sizes[v] = numbers::absolute(reading);
-        v += 1;
-    }
-}
