@@ -4,4 +4,5 @@ pub mod Laws
 pub mod Order
 pub mod Fields
 pub mod Word
+pub mod Rank
 pub mod Held

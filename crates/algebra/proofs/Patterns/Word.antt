@@ -85,11 +85,15 @@ module _ (w : ℕ) (valid : Valid w) where
   unfolding word
   valid-degree = ap (λ (k : ℕ). k % (fieldSize - 1)) (sym (valid .is)) ∙ word-degree (fieldSize - 1) (exponents w) (omega (arith, valid .low))
 
-  pub quotient-small : w / (fieldSize - 1) < 2 ^ 56
+  -- a pattern of degree d has no larger word than the power d of a
+  pub valid-most : w ≤ degree (exponents w) * 2 ^ 56
   unfolding word
-  quotient-small =
+  valid-most =
       let most = word-most fieldSize (omega arith) 7 (exponents w) (omega (arith, exponents-length w)) in
-      omega (arith, most, valid .is, valid .low)
+      omega (arith, most, valid .is)
+
+  pub quotient-small : w / (fieldSize - 1) < 2 ^ 56
+  quotient-small = omega (arith, valid-most, valid .low)
 
 module _ (v w : ℕ) (a : Valid v) (b : Valid w) where
   -- the product's word is the words' sum
