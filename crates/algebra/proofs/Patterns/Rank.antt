@@ -6,13 +6,13 @@ use native.Mathlib.Omega.{arith}
 use native.Mathlib.Decide.{decLt}
 use lib.Arith.{digits-lt}
 use lib.Pow.{shr-lt, split, high, low}
-use lib.ListN.{length, getD, set}
+use lib.ListN.{getD, set}
 use Rattle.algebra.specs.Limits.{largestDegree}
 use Rattle.algebra.specs.Pattern.{degree, times, thenBy, order}
-use Rattle.algebra.specs.Word.{fieldSize, word, exponents, Valid, EachValid}
+use Rattle.algebra.specs.Word.{word, exponents, Valid, EachValid}
 use Rattle.algebra.specs.Rank.{rankOf, wordAt, wordsAt}
 use Rattle.algebra.proofs.Numbers.Compare.{Says, compare-says, compare-is}
-use Rattle.algebra.proofs.Patterns.Word.{exponents-length, valid-degree, valid-most, quotient-small, word-product, product-valid, word-order}
+use Rattle.algebra.proofs.Patterns.Word.{valid-degree, valid-most, quotient-small, word-product, product-valid, word-order}
 
 -- ---- One word.
 
@@ -141,10 +141,6 @@ module _ (j k : ℕ) (first : j < 2 ^ 64) (second : k < 2 ^ 64) (a : Valid (word
         ∙ sym (word-product (wordAt j) (wordAt k) a b)
 
 -- ---- Lists of ranks.
-
-pub words-length : (ks : List ℕ) → length (wordsAt ks) ≡ length ks
-words-length [] = refl
-words-length (k ∷ ks) = ap suc (words-length ks)
 
 pub words-at : (ks : List ℕ) (i : ℕ) → getD (wordsAt ks) i 0 ≡ wordAt (getD ks i 0)
 words-at [] i = sym word-at-zero

@@ -47,9 +47,6 @@ module _ (p : Pattern) (long : length p ≡ variables) (low : degree p ≤ large
   pub word-valid : Valid (word p)
   word-valid = record { is = ap word exponents-word; low = rw exponents-word low }
 
-pub exponents-empty : exponents 0 ≡ emptyPattern variables
-exponents-empty = rw word-empty at (exponents-word (emptyPattern variables) refl (omega (arith, empty-degree variables)))
-
 pub empty-valid : Valid 0
 empty-valid = rw word-empty at (word-valid (emptyPattern variables) refl (omega (arith, empty-degree variables)))
 

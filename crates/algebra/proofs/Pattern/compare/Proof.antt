@@ -1,5 +1,5 @@
 -- `Pattern::compare` meets its contract: the larger rank stands first.
-use Prim.Native.Nat.{Ordering, Ordering·lt, Ordering·eq, Ordering·gt}
+use Prim.Native.Nat.{Ordering·lt, Ordering·eq, Ordering·gt}
 use native.Mathlib.Omega.{arith}
 use borrow.Author.Needs.{needs}
 use Rattle.algebra.proofs.Patterns.Rank.{rank-order}

@@ -1,6 +1,5 @@
 -- `Pattern::rank` meets its contract: a valid word's degree is its remainder by 255, and the quotient is below 2^56.
-use mathlib.Core.Path.{_≡_, _∙_, ap}
-use Prim.Native.Nat.{ℕ, _+_, _*_, _/_, _%_, _^_}
+use Prim.Native.Nat.{_^_}
 use native.Mathlib.Omega.{arith}
 use Rattle.algebra.specs.Rank.{rankOf}
 use Rattle.algebra.proofs.Patterns.Word.{valid-degree, quotient-small}
