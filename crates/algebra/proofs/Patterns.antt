@@ -4,5 +4,6 @@ pub mod Laws
 pub mod Order
 pub mod Fields
 pub mod Word
+pub mod Rank
 pub mod Held
 pub mod Either

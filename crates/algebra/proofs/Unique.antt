@@ -18,6 +18,8 @@ use Rattle.algebra.proofs.Pattern.product.Reads as product
 use Rattle.algebra.proofs.Pattern.either.Reads as either
 use Rattle.algebra.proofs.Pattern.degree.Reads as degree
 use Rattle.algebra.proofs.Pattern.total.Reads as total
+use Rattle.algebra.proofs.Pattern.rank.Reads as rank
+use Rattle.algebra.proofs.Pattern.of_rank.Reads as of-rank
 use Rattle.algebra.proofs.Pattern.compare.Reads as compare
 use Rattle.algebra.proofs.Pattern.exponent.Reads as exponent
 use Rattle.algebra.proofs.Pattern.power.Reads as power
@@ -78,6 +80,12 @@ either-one k a r r' e e' h h' = pattern h h'
 
 pub degree-one : One degree.Learnt
 degree-one k a r r' e e' h h' = same h h'
+
+pub rank-one : One rank.Learnt
+rank-one k a r r' e e' h h' = same h h'
+
+pub of-rank-one : One of-rank.Learnt
+of-rank-one k a r r' e e' h h' = pattern h h'
 
 pub compare-one : One compare.Learnt
 compare-one k a r r' e e' h h' = answer r r' (same h h')

@@ -8,6 +8,7 @@ pub mod Slope
 pub mod Substitute
 pub mod Margin
 pub mod Word
+pub mod Rank
 pub mod Held
 pub mod Accepted
 pub mod Standing

@@ -1,10 +1,11 @@
 // Power patterns, each in one machine word.
 ghost use mathlib.Core.Path.{_≡_};
-ghost use Prim.Native.Nat.{_+_, _*_, _-_, _/_, _^_, _≤_, _<_};
+ghost use Prim.Native.Nat.{_+_, _*_, _-_, _≤_, _<_};
 ghost use lib.ListN.{set};
 ghost use Rattle.algebra.specs.Limits.{variables, largestDegree, mostTerms, largestWeight, mostNodes, workPlaces};
 ghost use Rattle.algebra.specs.Pattern.{emptyPattern, times, either, degree, exponent, lowered, without, order};
 ghost use Rattle.algebra.specs.Word.{word, exponents, Valid};
+ghost use Rattle.algebra.specs.Rank.{rankOf, wordAt};
 ghost use Rattle.algebra.specs.Standing.{standing};
 
 // The limits of a sum and of a formula. (Those of a pattern are the pattern's own.)
@@ -77,6 +78,8 @@ impl Pattern {
     // The quotient of a valid word by 255 has fewer bits.
     const RANK_BITS: u64 = 56;
 
+    const RANK_SIZE: u64 = 0x0100000000000000;
+
     // The next three tie the constants to the definitions.
     pub fn variables() -> u64
         ensures { λ r. ⌜ r ≡ variables ⌝ }
@@ -132,12 +135,19 @@ impl Pattern {
         lanes % 65535
     }
 
-    // The place in the term order as one number: the degree, and below it the quotient by 255. At equal remainders the larger word has the larger quotient.
-    fn rank(self) -> u64
+    // The place in the term order as one number: the degree, and below it the quotient by 255. At equal remainders the larger word has the larger quotient. Ranks add up where words do.
+    pub fn rank(self) -> u64
         requires { ⌜ Valid (self .0) ⌝ }
-        ensures { λ r. ⌜ r ≡ degree (exponents (self .0)) * 2 ^ 56 + self .0 / 255 ⌝ }
+        ensures { λ r. ⌜ r ≡ rankOf (self .0) ⌝ }
     {
         ((self.0 % 255) << Pattern::RANK_BITS) + self.0 / 255
+    }
+
+    // The pattern that has this rank: the quotient and the remainder make up the word again.
+    pub fn of_rank(rank: u64) -> Pattern
+        ensures { λ r. ⌜ r .0 ≡ wordAt rank ⌝ }
+    {
+        Pattern(255 * (rank % Pattern::RANK_SIZE) + (rank >> Pattern::RANK_BITS))
     }
 
     // The larger degree stands first. At equal degrees it is the larger word: the first byte in which

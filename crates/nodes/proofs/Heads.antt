@@ -1,23 +1,20 @@
 -- Two sums in order, added from the front: the first term of one of them, or of both together, is the first term of what they give.
 use mathlib.Core.Path.{_≡_, sym, _∙_, ap, subst}
-use mathlib.Core.Bool.{false, or-comm}
-use mathlib.Core.List.{List, [], _∷_, _++_}
+use mathlib.Core.Bool.{false}
+use mathlib.Core.List.{[], _∷_, _++_}
 use Prim.Native.Nat.{suc, Ordering·lt, Ordering·eq}
 use lib.Dec.{T}
-use lib.IntN.{_+ℤ_, +ℤ-comm}
+use lib.IntN.{_+ℤ_}
 use lib.ListN.{length}
 use Rattle.algebra.specs.Pattern.{Pattern, order}
 use Rattle.algebra.specs.Sum.{Term, term, Sum, isZero, ahead, inOrder}
-use Rattle.algebra.specs.Value.{total, coefficientIn, coefficient}
-use Rattle.algebra.specs.Collect.{insert, gather, keep, dropZeros, collect, occurs}
+use Rattle.algebra.specs.Collect.{insert, gather, keep, dropZeros, collect}
 use Rattle.algebra.specs.Arithmetic.{_⊕_, sumSpread}
 use Rattle.algebra.proofs.Patterns.Order.{order-eq}
 use Rattle.algebra.proofs.Sums.Every.{Every, append-every, gather-every}
 use Rattle.algebra.proofs.Sums.Ordered.{before-is, is-before, order-head, order-tail, ahead-trans, gather-order}
-use Rattle.algebra.proofs.Sums.Equal.{gather-equal}
 use Rattle.algebra.proofs.Sums.Occurs.{spread-gather}
-use Rattle.algebra.proofs.Sums.Spreads.{append-occurs}
-use Rattle.algebra.proofs.Sums.Total.{total-append}
+use Rattle.algebra.proofs.Sums.Spreads.{gather-turned}
 use Rattle.sums.proofs.Merging.{insert-front, insert-same}
 
 -- ---- A pattern that stands before two sums stands before what they give.
@@ -42,18 +39,12 @@ gather-ahead p s t k h l j = first-after p (gather (s ++ t)) (gather-every (Afte
 
 -- ---- The first term.
 
-gather-turn : (l m : List Term) → gather (l ++ m) ≡ gather (m ++ l)
-unfolding coefficient
-gather-turn l m =
-    gather-equal (l ++ m) (m ++ l) (λ r. append-occurs r l m ∙ or-comm (occurs r l) (occurs r m) ∙ sym (append-occurs r m l))
-    (λ r. total-append (coefficientIn r) l m ∙ +ℤ-comm (total (coefficientIn r) l) (total (coefficientIn r) m) ∙ sym (total-append (coefficientIn r) m l))
-
 gather-first : (u : Term) (s t : Sum) → T (inOrder (u ∷ s)) → T (inOrder t) → T (ahead (u .pattern) t) → gather ((u ∷ s) ++ t) ≡ u ∷ gather (s ++ t)
 unfolding gather
 gather-first u s t k l h = insert-front u (gather (s ++ t)) (gather-order (s ++ t)) (gather-ahead (u .pattern) s t (order-tail u s k) (order-head u s k) l h)
 
 gather-second : (s : Sum) (v : Term) (t : Sum) → T (inOrder s) → T (inOrder (v ∷ t)) → T (ahead (v .pattern) s) → gather (s ++ (v ∷ t)) ≡ v ∷ gather (s ++ t)
-gather-second s v t k l h = gather-turn s (v ∷ t) ∙ gather-first v t s l k h ∙ ap (λ r. v ∷ r) (gather-turn t s)
+gather-second s v t k l h = gather-turned s (v ∷ t) ∙ gather-first v t s l k h ∙ ap (λ r. v ∷ r) (gather-turned t s)
 
 gather-both : (u : Term) (s : Sum) (v : Term) (t : Sum) → T (inOrder (u ∷ s)) → T (inOrder (v ∷ t)) → order (u .pattern) (v .pattern) ≡ Ordering·eq
     → gather ((u ∷ s) ++ (v ∷ t)) ≡ term (u .coefficient +ℤ v .coefficient) (u .pattern) ∷ gather (s ++ t)

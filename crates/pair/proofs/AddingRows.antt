@@ -1,32 +1,39 @@
 -- All pairs of the terms with one power of v and of what is put for it: what `add_rows` asks of `add_product`, and what it is told.
-use mathlib.Core.Path.{_≡_, sym, _∙_, ap, ap₂, subst}
+use mathlib.Core.Path.{_≡_, refl, sym, _∙_, ap, ap₂, subst}
 use mathlib.Core.Bool.{_||_}
-use mathlib.Core.List.{List, [], _∷_, _++_}
-use Prim.Native.Nat.{ℕ, _+_, _*_, _≤_, max}
+use mathlib.Core.List.{List, [], _∷_, _++_, map-append}
+use Prim.Native.Nat.{ℕ, _+_, _*_, _≤_, _<_, max, min}
 use native.Mathlib.Omega.{arith}
+use native.Mathlib.Nat.{mul-le-mul-left}
+use native.Mathlib.Decide.{decLt}
 use lib.IntN.{ℤ, _+ℤ_}
 use lib.ListN.{length, take, length-take, length-map}
+use lib.Seq.{take-take, take-append-le}
 use Rattle.algebra.specs.Limits.{largestDegree, mostTerms, largestWeight}
 use Rattle.algebra.specs.Pattern.{Pattern, degree}
 use Rattle.algebra.specs.Sum.{Term, Sum, degreeOf, weight}
-use Rattle.algebra.specs.Collect.{gather, occurs}
+use Rattle.algebra.specs.Collect.{gather, occurs, spread}
 use Rattle.algebra.specs.Arithmetic.{row, pairs}
 use Rattle.algebra.specs.Value.{total, coefficientIn, coefficient}
 use Rattle.algebra.specs.Word.{terms}
-use Rattle.algebra.specs.Held.{wordsOf, coefficientsOf, firstTerms}
+use Rattle.algebra.specs.Rank.{wordAt, wordsAt}
+use Rattle.algebra.specs.Held.{wordFor, firstTerms}
 use Rattle.algebra.proofs.Patterns.Laws.{degree-times}
 use Rattle.algebra.proofs.Sums.Total.{total-append}
 use Rattle.algebra.proofs.Sums.Equal.{coefficient-additive, gather-equal}
+use Rattle.algebra.proofs.Sums.Ordered.{gather-fixed}
 use Rattle.algebra.proofs.Sums.Occurs.{spread-gather}
 use Rattle.algebra.proofs.Sums.Ring.{comm-total}
 use Rattle.algebra.proofs.Sums.Spreads.{append-occurs, pairs-occurs}
 use Rattle.algebra.proofs.Sums.Results.{pairs-weight}
-use Rattle.answers.proofs.Writes.{written-front}
-use Rattle.sums.specs.Formed.{Formed, Formed.formed, Formed.over, within, withRow, formedInto}
-use Rattle.sums.specs.Rows.{Stands, CanAdd, Added}
-use Rattle.sums.proofs.Holding.{holdable}
-use Rattle.sums.proofs.Fronts.{Placed, placed-few, placed-inside, placed-is, placed-held}
-use Rattle.sums.proofs.Pairing.{each-fits}
+use Rattle.sums.specs.Held.{Held}
+use Rattle.sums.specs.Formed.{Formed, Formed.formed, within, withRow}
+use Rattle.sums.specs.Rows.{Stands, RoomFor, CanAdd, Added, rankedInto}
+use Rattle.sums.proofs.Holding.{map-take, holdable}
+use Rattle.sums.proofs.Answering.{added-formed}
+use Rattle.sums.proofs.Fronts.{Placed, placed-few, placed-inside, placed-is, placed-held, held-placed}
+use Rattle.sums.proofs.Pairing.{all-fit, each-fits, answer-holdable}
+use Rattle.sums.proofs.Clearing.{ranked-added}
 use Rattle.pair.specs.Rows.{partAt, rowsAt, CanAddRows}
 use Rattle.pair.proofs.TakingPart.{part-holdable}
 
@@ -68,80 +75,145 @@ pairs-high m (u ∷ s) t first second all =
     let later : degreeOf s + degreeOf t ≤ m = pairs-high m s t (omega arith) second (omega arith) in
     omega arith
 
--- ---- A sum that was written to two areas stands in their first places.
+-- ---- Places of the running sum.
 
-into-added : (f : Formed Sum) (ws₀ : List ℕ) (cs₀ : List ℤ) {answer : Formed ℕ} {ws : List ℕ} {cs : List ℤ} → (answer, ws, cs) ≡ formedInto f ws₀ cs₀ → Added f answer ws cs
-unfolding formedInto
-into-added (formed s) ws₀ cs₀ {ws = ws} {cs} told = record {
-  number-is = ap (λ x. x .0) told;
-  words-are = λ t e. subst (λ (u : Sum). take (length u) ws ≡ wordsOf u) (inside t e) (written-front (wordsOf s) ws₀ (ap (λ x. x .1) told) (length-map s _) .0);
-  coefficients-are = λ t e. subst (λ (u : Sum). take (length u) cs ≡ coefficientsOf u) (inside t e) (written-front (coefficientsOf s) cs₀ (ap (λ x. x .2) told) (length-map s _) .0);
+-- it has room for all pairs, or for any running sum and a row
+room-for : (n m w rows row : ℕ) {end : ℕ} → end ≡ min (n + m * w) (mostTerms + mostTerms) → rows * row ≡ m * w → row ≤ mostTerms → RoomFor n rows row end
+room-for n m w rows row {end} is pairs few = go (decLt end (mostTerms + mostTerms))
+  where
+    go : Dec (end < mostTerms + mostTerms) → RoomFor n rows row end
+    go (yes less) = all-fit n rows row end (omega arith)
+    go (no most) = each-fits n rows row end (omega arith)
+
+-- a sum that stands in the part of two areas that was lent stands in the areas
+lent-added : {f : Formed Sum} {answer : Formed ℕ} (ks : List ℕ) {cs : List ℤ} → Added f answer (wordsAt ks) cs → (rest : List ℕ) (more : List ℤ) → Added f answer (wordsAt (ks ++ rest)) (cs ++ more)
+lent-added ks {cs} a rest more = record {
+  number-is = a .number-is;
+  words-are = λ s e.
+      ap (take (length s)) (map-append wordAt ks rest)
+      ∙ take-append-le (length s) (wordsAt ks) (wordsAt rest) (omega (arith, length-take (length s) (wordsAt ks), ap length (a .words-are s e), length-map s (λ (t : Term). wordFor (t .pattern))))
+      ∙ a .words-are s e;
+  coefficients-are = λ s e.
+      take-append-le (length s) cs more (omega (arith, length-take (length s) cs, ap length (a .coefficients-are s e), length-map s (λ (t : Term). t .coefficient)))
+      ∙ a .coefficients-are s e;
 }
-  where
-    inside : (t : Sum) → formed s ≡ formed t → s ≡ t
-    inside t e = cc
-into-added over ws₀ cs₀ told = record { number-is = ap (λ x. x .0) told; words-are = λ t e. absurd (never t e); coefficients-are = λ t e. absurd (never t e) }
-  where
-    never : (t : Sum) → over ≡ formed t → ⊥
-    never t e = let z : _≡_ {A = ℕ} 0 1 = cc in omega arith
 
--- ---- The part, once it stands in two arrays; the code lends their places from 0 to m, which are `count` many.
+-- ---- The part, once it stands in two arrays by ranks; the code lends their places from 0 to m, which are `count` many, and those of the running sum from 0 to `end`, which are `many`. The power's
+-- ranks are wr.
 
-module _ {v k : ℕ} {fp : List ℕ} {fc : List ℤ} {wp : List ℕ} {wc : List ℤ} {gp : List ℕ} {gc : List ℤ} {n : ℕ} (a : CanAddRows v k fp fc wp wc gp gc n)
-    {m : ℕ} {pp : List ℕ} {pc : List ℤ} (stands : Stands (partAt v k (terms fp fc)) m pp pc) {count : ℕ} (all-lent : count ≡ m) where
+module _ {v k : ℕ} {fp : List ℕ} {fc : List ℤ} {wp : List ℕ} {wc : List ℤ} (gr : List ℕ) {gc : List ℤ} {n : ℕ} (a : CanAddRows v k fp fc wp wc (wordsAt gr) gc n)
+    {m : ℕ} (pr : List ℕ) {pc : List ℤ} (stands : Stands (partAt v k (terms fp fc)) m (wordsAt pr) pc) where
   abbrev part : Sum
   part = partAt v k (terms fp fc)
 
   abbrev F : Sum
   F = terms wp wc
 
-  placed : Placed part count pp pc
-  placed = rw all-lent (record { stands = stands; holdable = part-holdable v k (a .known) (holdable (a .into)) })
+  placed : Placed part m (wordsAt pr) pc
+  placed = record { stands = stands; holdable = part-holdable v k (a .known) (holdable (a .into)) }
 
-  pub part-inside : (count ≤ length pp) × (count ≤ length pc)
-  part-inside = placed-inside placed
+  pub part-few : m ≤ mostTerms
+  part-few = placed-few placed
 
-  low : degreeOf (firstTerms count pp pc) + degreeOf F ≤ largestDegree
-  low = rw (placed-is placed) (pairs-high largestDegree part F (placed .holdable .low) (a .factor .low) (a .low))
+  pub part-inside : (m ≤ length pr) × (m ≤ length pc)
+  part-inside = let inside = placed-inside placed in (omega (arith, inside .0, length-map pr wordAt), inside .1)
 
-  light : weight (firstTerms count pp pc) * weight F + weight (firstTerms n gp gc) ≤ largestWeight
-  light = rw (placed-is placed, ← pairs-weight part F) (a .light)
+  pub pairs-few : m * length wp ≤ mostTerms * mostTerms
+  pairs-few = omega (arith, mul-le-mul-left m (a .factor .few), part-few)
 
-  -- the length of the part that is lent
-  part-few : length (take count pp) ≤ mostTerms
-  part-few = omega (arith, length-take count pp, placed-few placed)
+  -- nothing to add
+  pub none-added : m ≡ 0 → Added (withRow (rowsAt v k (terms wp wc) (terms fp fc)) (firstTerms n (wordsAt gr) gc)) (formed n) (wordsAt gr) gc
+  unfolding withRow pairs
+  none-added none =
+      let r = firstTerms n (wordsAt gr) gc in
+      let running = held-placed {n = n} (omega (arith, a .few, a .words-room)) (a .running) in
+      let empty : part ≡ [] = nothing part (sym (stands .number-is) ∙ none) in
+      let same : gather r ≡ r = gather-fixed r (a .running .strict) in
+      let few : spread r ≤ mostTerms = omega (arith, spread-gather r, ap length same, running .holdable .few) in
+      subst (λ (l : Sum). Added (within (spread (pairs l F ++ r)) (gather (pairs l F ++ r))) (formed n) (wordsAt gr) gc) (sym empty)
+      (added-formed (spread r) (gather r) (wordsAt gr) gc few (rw same (running .stands)))
+    where
+      nothing : (l : Sum) → length l ≡ 0 → l ≡ []
+      nothing [] e = refl
+      nothing (t ∷ l) e = absurd (omega arith)
 
-  -- what `add_product` requires, whichever comes first
-  pub part-first : CanAdd gp gc n (take count pp) (take count pc) wp wc
-  part-first = record {
-    running = a .running;
-    few = a .few;
-    first = placed-held placed;
-    second = a .factor;
-    low = low;
-    light = light;
-    words-room = each-fits n (length (take count pp)) (length wp) (length gp) (omega (arith, a .factor .few, a .words-room));
-    coefficients-room = each-fits n (length (take count pp)) (length wp) (length gc) (omega (arith, a .factor .few, a .coefficients-room));
-  }
+  module _ {end count many : ℕ} (wr : List ℕ) (power-is : wordsAt wr ≡ wp) (end-is : end ≡ min (n + m * length wp) (mostTerms + mostTerms)) (all-lent : count ≡ m) (end-lent : many ≡ end) where
+    enough : n ≤ many
+    enough = omega (arith, a .few)
 
-  pub power-first : CanAdd gp gc n wp wc (take count pp) (take count pc)
-  power-first = record {
-    running = a .running;
-    few = a .few;
-    first = a .factor;
-    second = placed-held placed;
-    low = omega (arith, low);
-    light = omega (arith, light);
-    words-room = each-fits n (length wp) (length (take count pp)) (length gp) (omega (arith, part-few, a .words-room));
-    coefficients-room = each-fits n (length wp) (length (take count pp)) (length gc) (omega (arith, part-few, a .coefficients-room));
-  }
+    pub end-inside : (end ≤ length gr) × (end ≤ length gc)
+    end-inside = (omega (arith, a .words-room, length-map gr wordAt), omega (arith, a .coefficients-room))
 
-  -- and what it answers: the rows are added
-  module _ (ws₀ : List ℕ) (cs₀ : List ℤ) {answer : Formed ℕ} {gp' : List ℕ} {gc' : List ℤ} where
-    pub part-added : (answer, gp', gc') ≡ formedInto (withRow (pairs (firstTerms count pp pc) (terms wp wc)) (firstTerms n gp gc)) ws₀ cs₀
-        → Added (withRow (rowsAt v k (terms wp wc) (terms fp fc)) (firstTerms n gp gc)) answer gp' gc'
-    part-added told = rw (placed-is placed) at (into-added (withRow (pairs (firstTerms count pp pc) F) (firstTerms n gp gc)) ws₀ cs₀ told)
+    part-lent : terms (wordsAt (take count pr)) (take count pc) ≡ part
+    part-lent = rw (map-take wordAt count pr, all-lent) (placed-is placed)
 
-    pub power-added : (answer, gp', gc') ≡ formedInto (withRow (pairs (terms wp wc) (firstTerms count pp pc)) (firstTerms n gp gc)) ws₀ cs₀
-        → Added (withRow (rowsAt v k (terms wp wc) (terms fp fc)) (firstTerms n gp gc)) answer gp' gc'
-    power-added told = part-added (told ∙ ap (λ x. formedInto x ws₀ cs₀) (turned F (firstTerms count pp pc) (firstTerms n gp gc)))
+    part-held : Held (wordsAt (take count pr)) (take count pc)
+    part-held = rw (map-take wordAt count pr, all-lent) (placed-held placed)
+
+    running-lent : firstTerms n (wordsAt (take many gr)) (take many gc) ≡ firstTerms n (wordsAt gr) gc
+    running-lent = rw (map-take wordAt many gr, take-take n many (wordsAt gr) enough, take-take n many gc enough) refl
+
+    running-held : Held (take n (wordsAt (take many gr))) (take n (take many gc))
+    running-held = rw (map-take wordAt many gr, take-take n many (wordsAt gr) enough, take-take n many gc enough) (a .running)
+
+    power-held : Held (wordsAt wr) wc
+    power-held = rw power-is (a .factor)
+
+    low : degreeOf (terms (wordsAt (take count pr)) (take count pc)) + degreeOf (terms (wordsAt wr) wc) ≤ largestDegree
+    low = rw (part-lent, power-is) (pairs-high largestDegree part F (placed .holdable .low) (a .factor .low) (a .low))
+
+    light : weight (terms (wordsAt (take count pr)) (take count pc)) * weight (terms (wordsAt wr) wc) + weight (firstTerms n (wordsAt (take many gr)) (take many gc)) ≤ largestWeight
+    light = rw (part-lent, power-is, running-lent, ← pairs-weight part F) (a .light)
+
+    part-many : length (wordsAt (take count pr)) ≡ m
+    part-many = omega (arith, length-map (take count pr) wordAt, length-take count pr, part-inside .0)
+
+    power-many : length (wordsAt wr) ≡ length wp
+    power-many = ap length power-is
+
+    room : (rows row : ℕ) → rows * row ≡ m * length wp → row ≤ mostTerms → (RoomFor n rows row (length (wordsAt (take many gr)))) × (RoomFor n rows row (length (take many gc)))
+    room rows row pairs few =
+        let first : length (wordsAt (take many gr)) ≡ end = omega (arith, length-map (take many gr) wordAt, length-take many gr, end-inside .0) in
+        let second : length (take many gc) ≡ end = omega (arith, length-take many gc, end-inside .1) in
+        (rw first (room-for n m (length wp) rows row end-is pairs few), rw second (room-for n m (length wp) rows row end-is pairs few))
+
+    -- what `add_product` requires, whichever comes first
+    pub part-first : CanAdd (wordsAt (take many gr)) (take many gc) n (wordsAt (take count pr)) (take count pc) (wordsAt wr) wc
+    part-first =
+        let both = rw (← part-many, ← power-many) at (room m (length wp) refl (a .factor .few)) in
+        record {
+          running = running-held;
+          few = a .few;
+          first = part-held;
+          second = power-held;
+          low = low;
+          light = light;
+          words-room = both .0;
+          coefficients-room = both .1;
+        }
+
+    pub power-first : CanAdd (wordsAt (take many gr)) (take many gc) n (wordsAt wr) wc (wordsAt (take count pr)) (take count pc)
+    power-first =
+        let both = rw (← part-many, ← power-many) at (room (length wp) m (omega arith) part-few) in
+        record {
+          running = running-held;
+          few = a .few;
+          first = power-held;
+          second = part-held;
+          low = omega (arith, low);
+          light = omega (arith, light);
+          words-room = both .0;
+          coefficients-room = both .1;
+        }
+
+    -- and what it answers: the rows are added
+    module _ (ks₀ : List ℕ) (cs₀ : List ℤ) {answer : Formed ℕ} (ks : List ℕ) {cs : List ℤ} (rest : List ℕ) (more : List ℤ) where
+      pub part-added : (answer, ks, cs) ≡ rankedInto (withRow (pairs (terms (wordsAt (take count pr)) (take count pc)) (terms (wordsAt wr) wc)) (firstTerms n (wordsAt (take many gr)) (take many gc))) ks₀ cs₀
+          → Added (withRow (rowsAt v k (terms wp wc) (terms fp fc)) (firstTerms n (wordsAt gr) gc)) answer (wordsAt (ks ++ rest)) (cs ++ more)
+      part-added told =
+          rw (part-lent, power-is, running-lent) at (lent-added ks (ranked-added _ (answer-holdable part-first) ks₀ cs₀ ks told) rest more)
+
+      pub power-added : (answer, ks, cs) ≡ rankedInto (withRow (pairs (terms (wordsAt wr) wc) (terms (wordsAt (take count pr)) (take count pc))) (firstTerms n (wordsAt (take many gr)) (take many gc))) ks₀ cs₀
+          → Added (withRow (rowsAt v k (terms wp wc) (terms fp fc)) (firstTerms n (wordsAt gr) gc)) answer (wordsAt (ks ++ rest)) (cs ++ more)
+      power-added told =
+          part-added (told ∙ ap (λ x. rankedInto x ks₀ cs₀) (turned (terms (wordsAt wr) wc) (terms (wordsAt (take count pr)) (take count pc)) (firstTerms n (wordsAt (take many gr)) (take many gc))))

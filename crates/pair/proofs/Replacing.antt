@@ -125,6 +125,13 @@ pub record Putting (v largest : ℕ) (sp : List ℕ) (sc : List ℤ) (fp : List 
   pub words-room : mostTerms + mostTerms ≡ length gp
   pub coefficients-room : mostTerms + mostTerms ≡ length gc
 
+-- the arrays that are lent to work in, and that of the running sum's ranks, keep their lengths
+pub record Lent (gr pr : List ℕ) (pc : List ℤ) (wr : List ℕ) : Type 0 where
+  pub running : mostTerms + mostTerms ≡ length gr
+  pub part-ranks : mostTerms ≡ length pr
+  pub part-coefficients : mostTerms ≡ length pc
+  pub power-ranks : mostTerms ≡ length wr
+
 -- And where the power k stands, and its rows are to be added to those before.
 pub record Joining (v largest : ℕ) (sp : List ℕ) (sc : List ℤ) (fp : List ℕ) (fc : List ℤ) (gp : List ℕ) (gc : List ℤ) (wp : List ℕ) (wc : List ℤ)
     (n all k : ℕ) : Type 0 where

@@ -1,5 +1,5 @@
 // A sum is put for a variable, power by power: the terms without the variable come first, then those with its first power, and so on. Each power is
-// formed once, of the one before. `wp` and `wc` hold the power of the sum that is put, `gp` and `gc` the running sum.
+// formed once, of the one before. `wp` and `wc` hold the power of the sum that is put, `gr` and `gc` the running sum, by ranks.
 use algebra::MOST_TERMS;
 use algebra::Pattern;
 use answers::areas;
@@ -7,11 +7,12 @@ use sums::Formed;
 use sums::MOST_PLACES;
 use sums::rows;
 ghost use mathlib.Core.Path.{_≡_};
-ghost use Prim.Native.Nat.{_≤_, _<_};
-ghost use lib.ListN.{take};
+ghost use Prim.Native.Nat.{_+_, _*_, _≤_, _<_, min};
+ghost use lib.ListN.{length, take};
 ghost use Rattle.algebra.specs.Limits.{variables, mostTerms};
 ghost use Rattle.algebra.specs.Substitute.{largestPower};
 ghost use Rattle.algebra.specs.Word.{terms};
+ghost use Rattle.algebra.specs.Rank.{wordsAt};
 ghost use Rattle.algebra.specs.Held.{firstTerms};
 ghost use Rattle.sums.specs.Held.{Held};
 ghost use Rattle.sums.specs.Asked.{Room, Factors};
@@ -21,12 +22,12 @@ ghost use Rattle.pair.specs.Asked.{Given, Allowed};
 ghost use Rattle.pair.specs.Formed.{pairOf};
 ghost use Rattle.pair.specs.Rows.{partAt, rowsAt, CanAddRows};
 
-// The terms with the power k of v, without it: they keep their order. It answers how many they are.
-fn take_part(v: u64, k: u64, fp: &[u64], fc: &[i64], pp: &mut [u64], pc: &mut [i64]) -> usize
+// The terms with the power k of v, without it, by ranks: they keep their order. It answers how many they are.
+fn take_part(v: u64, k: u64, fp: &[u64], fc: &[i64], pr: &mut [u64], pc: &mut [i64]) -> usize
     requires { ⌜ v < variables ⌝ }
     requires { ⌜ Held (now fp) (now fc) ⌝ }
-    requires { ⌜ Room (now pp) (now pc) ⌝ }
-    ensures { λ r. ⌜ Stands (partAt v k (terms (now (fp .entry)) (now (fc .entry)))) r (now (pp .exit)) (now (pc .exit)) ⌝ }
+    requires { ⌜ Room (now pr) (now pc) ⌝ }
+    ensures { λ r. ⌜ Stands (partAt v k (terms (now (fp .entry)) (now (fc .entry)))) r (wordsAt (now (pr .exit))) (now (pc .exit)) ⌝ }
 {
     let mut count = 0;
     let mut i = 0;
@@ -35,7 +36,7 @@ fn take_part(v: u64, k: u64, fp: &[u64], fc: &[i64], pp: &mut [u64], pc: &mut [i
         if pattern.exponent(v) == k {
             let c = fc[i];
             let rest = pattern.without(v);
-            pp[count] = rest.0;
+            pr[count] = rest.rank();
             pc[count] = c;
             count += 1;
             i += 1;
@@ -46,8 +47,21 @@ fn take_part(v: u64, k: u64, fp: &[u64], fc: &[i64], pp: &mut [u64], pc: &mut [i
     count
 }
 
+// The places that a running sum of n terms takes up while it is formed with so many pairs: no more than it and all pairs do, and no more than any running sum.
+fn places(n: usize, pairs: usize) -> usize
+    requires { ⌜ n ≤ mostTerms ⌝ }
+    requires { ⌜ pairs ≤ mostTerms * mostTerms ⌝ }
+    ensures { λ r. ⌜ r ≡ min (n + pairs) (mostTerms + mostTerms) ⌝ }
+{
+    let all = n + pairs;
+    if all < MOST_PLACES {
+        return all;
+    }
+    MOST_PLACES
+}
+
 // The rows of the terms with the power k of v go into the running sum, which has n terms: all pairs of these terms and of the power that is put for v,
-// with a row for each term of the shorter of the two.
+// with a row for each term of the shorter of the two. `pr`, `pc` and `wr` are lent to work in. No more places of the running sum are lent than are needed: they are cleared.
 fn add_rows(
     v: u64,
     k: u64,
@@ -55,44 +69,69 @@ fn add_rows(
     fc: &[i64],
     wp: &[u64],
     wc: &[i64],
-    gp: &mut [u64],
+    gr: &mut [u64],
     gc: &mut [i64],
     n: usize,
+    pr: &mut [u64],
+    pc: &mut [i64],
+    wr: &mut [u64],
 ) -> Formed
-    requires { ⌜ CanAddRows v k (now fp) (now fc) (now wp) (now wc) (now gp) (now gc) n ⌝ }
-    ensures { λ r. ⌜ Added (withRow (rowsAt v k (terms (now (wp .entry)) (now (wc .entry))) (terms (now (fp .entry)) (now (fc .entry)))) (firstTerms n (now (gp .entry)) (now (gc .entry)))) (formedOf r) (now (gp .exit)) (now (gc .exit)) ⌝ }
+    requires { ⌜ CanAddRows v k (now fp) (now fc) (now wp) (now wc) (wordsAt (now gr)) (now gc) n ⌝ }
+    requires { ⌜ Room (now pr) (now pc) ⌝ }
+    requires { ⌜ mostTerms ≤ length (now wr) ⌝ }
+    ensures { λ r. ⌜ Added (withRow (rowsAt v k (terms (now (wp .entry)) (now (wc .entry))) (terms (now (fp .entry)) (now (fc .entry)))) (firstTerms n (wordsAt (now (gr .entry))) (now (gc .entry)))) (formedOf r) (wordsAt (now (gr .exit))) (now (gc .exit)) ⌝ }
 {
-    let mut pp = [0u64; MOST_TERMS];
-    let mut pc = [0i64; MOST_TERMS];
-    let m = take_part(v, k, fp, fc, &mut pp, &mut pc);
-    if m < wp.len() {
-        return rows::add_product(gp, gc, n, &pp[0..m], &pc[0..m], wp, wc);
+    let m = take_part(v, k, fp, fc, pr, pc);
+    if m == 0 {
+        return Formed::Terms(n);
     }
-    rows::add_product(gp, gc, n, wp, wc, &pp[0..m], &pc[0..m])
+    let w = wp.len();
+    rows::rank_words(wp, wr);
+    let end = places(n, m * w);
+    if m < w {
+        return rows::add_product(
+            &mut gr[0..end],
+            &mut gc[0..end],
+            n,
+            &pr[0..m],
+            &pc[0..m],
+            &wr[0..w],
+            wc,
+        );
+    }
+    rows::add_product(
+        &mut gr[0..end],
+        &mut gc[0..end],
+        n,
+        &wr[0..w],
+        wc,
+        &pr[0..m],
+        &pc[0..m],
+    )
 }
 
-// The power becomes the next one.
-fn raise(wp: &mut [u64], wc: &mut [i64], n: usize, sp: &[u64], sc: &[i64]) -> Formed
+// The power becomes the next one, which is formed in two areas that are lent to work in.
+fn raise(
+    wp: &mut [u64],
+    wc: &mut [i64],
+    n: usize,
+    sp: &[u64],
+    sc: &[i64],
+    patterns: &mut [u64],
+    coefficients: &mut [i64],
+) -> Formed
     requires { ⌜ n ≤ mostTerms ⌝ }
     requires { ⌜ Factors (take n (now wp)) (take n (now wc)) (now sp) (now sc) ⌝ }
     requires { ⌜ Room (now wp) (now wc) ⌝ }
+    requires { ⌜ Room (now patterns) (now coefficients) ⌝ }
     ensures { λ r. ⌜ (formedOf r, now (wp .exit), now (wc .exit)) ≡ formedInto (productOf (firstTerms n (now (wp .entry)) (now (wc .entry))) (terms (now (sp .entry)) (now (sc .entry)))) (now (wp .entry)) (now (wc .entry)) ⌝ }
 {
-    let mut patterns = [0u64; MOST_TERMS];
-    let mut coefficients = [0i64; MOST_TERMS];
-    let formed = sums::product(
-        &wp[0..n],
-        &wc[0..n],
-        sp,
-        sc,
-        &mut patterns,
-        &mut coefficients,
-    );
+    let formed = sums::product(&wp[0..n], &wc[0..n], sp, sc, patterns, coefficients);
     let Formed::Terms(count) = formed else {
         return formed;
     };
-    areas::copy_words(wp, &patterns, count);
-    areas::copy_coefficients(wc, &coefficients, count);
+    areas::copy_words(wp, patterns, count);
+    areas::copy_coefficients(wc, coefficients, count);
     formed
 }
 
@@ -113,31 +152,60 @@ pub fn put(
     requires { ⌜ Room (now patterns) (now coefficients) ⌝ }
     ensures { λ r. ⌜ (formedOf r, now (patterns .exit), now (coefficients .exit)) ≡ formedInto (pairOf v (terms (now (sp .entry)) (now (sc .entry))) (terms (now (fp .entry)) (now (fc .entry)))) (now (patterns .entry)) (now (coefficients .entry)) ⌝ }
 {
-    let mut gp = [0u64; MOST_PLACES];
+    let mut gr = [0u64; MOST_PLACES];
     let mut gc = [0i64; MOST_PLACES];
     let mut wp = [0u64; MOST_TERMS];
     let mut wc = [0i64; MOST_TERMS];
+    let mut pr = [0u64; MOST_TERMS];
+    let mut pc = [0i64; MOST_TERMS];
+    let mut wr = [0u64; MOST_TERMS];
     // The power 0 is 1, which has one term.
     sums::integer(1, &mut wp, &mut wc);
     let mut n = 1;
-    let first = add_rows(v, 0, fp, fc, &wp[0..1], &wc[0..1], &mut gp, &mut gc, 0);
+    let first = add_rows(
+        v,
+        0,
+        fp,
+        fc,
+        &wp[0..1],
+        &wc[0..1],
+        &mut gr,
+        &mut gc,
+        0,
+        &mut pr,
+        &mut pc,
+        &mut wr,
+    );
     let Formed::Terms(free) = first else {
         return first;
     };
     let mut all = free;
     let mut k = 0;
     while k < largest {
-        let raised = raise(&mut wp, &mut wc, n, sp, sc);
+        let raised = raise(&mut wp, &mut wc, n, sp, sc, &mut pr, &mut pc);
         let Formed::Terms(count) = raised else {
             return raised;
         };
         n = count;
         k += 1;
-        let added = add_rows(v, k, fp, fc, &wp[0..n], &wc[0..n], &mut gp, &mut gc, all);
+        let added = add_rows(
+            v,
+            k,
+            fp,
+            fc,
+            &wp[0..n],
+            &wc[0..n],
+            &mut gr,
+            &mut gc,
+            all,
+            &mut pr,
+            &mut pc,
+            &mut wr,
+        );
         let Formed::Terms(together) = added else {
             return added;
         };
         all = together;
     }
-    rows::finish(&gp[0..all], &gc[0..all], patterns, coefficients)
+    rows::finish(&gr[0..all], &gc[0..all], patterns, coefficients)
 }

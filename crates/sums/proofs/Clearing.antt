@@ -1,17 +1,23 @@
--- Two areas whose first places hold a sum, or nothing, once their other places are cleared: as if the sum were written to areas of zeros.
-use mathlib.Core.Path.{_≡_, refl, sym, _∙_, ap, ap₂}
-use mathlib.Core.List.{List, [], _++_, append-nil}
-use Prim.Native.Nat.{ℕ, _+_, _-_, _≤_}
+-- Two areas whose first places hold a sum by ranks, or nothing, once their other places are cleared: as if the sum were written to areas of zeros.
+use mathlib.Core.Path.{_≡_, refl, sym, _∙_, ap, ap₂, subst}
+use mathlib.Core.List.{List, [], _++_, map, append-nil}
+use Prim.Native.Nat.{ℕ, _+_, _-_, _^_, _≤_, _<_}
 use native.Mathlib.Omega.{arith}
 use lib.IntN.{ℤ, pos}
-use lib.ListN.{length, take, drop, length-take, length-drop, length-map, drop-of-length-le, replicate, length-replicate, replicate-append-replicate}
+use lib.ListN.{length, getD, take, drop, length-take, length-drop, length-map, drop-of-length-le, replicate, length-replicate, replicate-append-replicate}
 use lib.Seq.{drop-at}
 use borrow.Rule.Slice.PartMut.{midOf, putMid}
 use Rattle.algebra.specs.Sum.{Term, Sum}
+use Rattle.algebra.specs.Word.{EachValid}
+use Rattle.algebra.specs.Rank.{rankOf, wordAt, wordsAt}
 use Rattle.algebra.specs.Held.{wordFor, wordsOf, coefficientsOf}
+use Rattle.algebra.proofs.Patterns.Rank.{words-again}
 use Rattle.answers.specs.Areas.{written, cleared}
-use Rattle.sums.specs.Formed.{Formed, Formed.formed, Formed.over, formedInto}
-use Rattle.sums.specs.Rows.{Added}
+use Rattle.answers.proofs.Writes.{written-front}
+use Rattle.sums.specs.Formed.{Formed, Formed.formed, Formed.over}
+use Rattle.sums.specs.Rows.{Added, ranksOf, rankedInto}
+use Rattle.sums.proofs.Holding.{map-take, Holdable, each-valid, holds}
+use Rattle.sums.proofs.Ranking.{front-ranks}
 
 -- ---- One area.
 
@@ -48,33 +54,62 @@ abbrev pub numberOf : Formed ℕ → ℕ
 numberOf (formed n) = n
 numberOf over = 0
 
-pub number-inside : (f : Formed Sum) {answer : Formed ℕ} {ws : List ℕ} {cs : List ℤ} {all : ℕ} → Added f answer ws cs → all ≡ numberOf answer → (all ≤ length ws) × (all ≤ length cs)
-number-inside (formed s) {ws = ws} {cs} {all} a is =
+pub number-inside : (f : Formed Sum) {answer : Formed ℕ} (ks : List ℕ) {cs : List ℤ} {all : ℕ} → Added f answer (wordsAt ks) cs → all ≡ numberOf answer → (all ≤ length ks) × (all ≤ length cs)
+number-inside (formed s) ks {cs} {all} a is =
     let many : all ≡ length s = is ∙ ap numberOf (a .number-is) in (
-      omega (arith, length-take (length s) ws, ap length (a .words-are s refl), length-map s (λ (t : Term). wordFor (t .pattern))),
+      omega (arith, length-take (length s) (wordsAt ks), length-map ks wordAt, ap length (a .words-are s refl), length-map s (λ (t : Term). wordFor (t .pattern))),
       omega (arith, length-take (length s) cs, ap length (a .coefficients-are s refl), length-map s (λ (t : Term). t .coefficient)),
     )
-number-inside over {all = all} a is = let none : all ≡ 0 = is ∙ ap numberOf (a .number-is) in (omega arith, omega arith)
+number-inside over ks {all = all} a is = let none : all ≡ 0 = is ∙ ap numberOf (a .number-is) in (omega arith, omega arith)
 
-module _ {answer : Formed ℕ} (ws₀ : List ℕ) (cs₀ : List ℤ) (ws : List ℕ) (cs : List ℤ) (all : ℕ) (is : all ≡ numberOf answer) (same-words : length ws ≡ length ws₀) (same-coefficients : length cs ≡ length cs₀)
-    {ps : List ℕ} {ds : List ℤ} (words : ps ≡ cleared 0 (length ws - all) (midOf all (length ws - all) ws))
+-- the ranks of the sum stand where its words do
+pub ranks-stand : {f : Formed Sum} {answer : Formed ℕ} (ks : List ℕ) {cs : List ℤ} → Added f answer (wordsAt ks) cs → ((i : ℕ) → getD ks i 0 < 2 ^ 64) → ((s : Sum) → f ≡ formed s → Holdable s)
+    → (s : Sum) → f ≡ formed s → take (length s) ks ≡ ranksOf s
+ranks-stand ks a small holdable s is =
+    let words = a .words-are s is in
+    front-ranks (length s) ks small (subst EachValid (sym words) (each-valid (holds (holdable s is)))) ∙ ap (map rankOf) words
+
+module _ {answer : Formed ℕ} (ks₀ : List ℕ) (cs₀ : List ℤ) (ks : List ℕ) (cs : List ℤ) (all : ℕ) (is : all ≡ numberOf answer) (same-ranks : length ks ≡ length ks₀) (same-coefficients : length cs ≡ length cs₀)
+    {ps : List ℕ} {ds : List ℤ} (ranks : ps ≡ cleared 0 (length ks - all) (midOf all (length ks - all) ks))
     (coefficients : ds ≡ cleared (pos 0) (length cs - all) (midOf all (length cs - all) cs)) where
-  pub cleared-into : (f : Formed Sum) → Added f answer ws cs
-      → (answer, putMid all (length ws - all) ws ps, putMid all (length cs - all) cs ds) ≡ formedInto f (cleared 0 (length ws₀) ws₀) (cleared (pos 0) (length cs₀) cs₀)
-  unfolding formedInto
-  cleared-into (formed s) a =
+  pub cleared-into : (f : Formed Sum) → Added f answer (wordsAt ks) cs → ((s : Sum) → f ≡ formed s → take (length s) ks ≡ ranksOf s)
+      → (answer, putMid all (length ks - all) ks ps, putMid all (length cs - all) cs ds) ≡ rankedInto f (cleared 0 (length ks₀) ks₀) (cleared (pos 0) (length cs₀) cs₀)
+  unfolding rankedInto
+  cleared-into (formed s) a stand =
       let many : all ≡ length s = is ∙ ap numberOf (a .number-is) in
-      let inside = number-inside (formed s) a is in
+      let inside = number-inside (formed s) ks a is in
       rw (
         a .number-is,
-        rest-cleared 0 (wordsOf s) ws₀ ws ps all (ap (λ (n : ℕ). take n ws) many ∙ a .words-are s refl) (length-map s _ ∙ sym many) (inside .0) same-words words,
+        rest-cleared 0 (ranksOf s) ks₀ ks ps all (ap (λ (n : ℕ). take n ks) many ∙ stand s refl) (length-map (wordsOf s) rankOf ∙ length-map s _ ∙ sym many) (inside .0) same-ranks ranks,
         rest-cleared (pos 0) (coefficientsOf s) cs₀ cs ds all (ap (λ (n : ℕ). take n cs) many ∙ a .coefficients-are s refl) (length-map s _ ∙ sym many) (inside .1) same-coefficients coefficients,
       )
-  cleared-into over a =
+  cleared-into over a stand =
       let none : all ≡ 0 = is ∙ ap numberOf (a .number-is) in
-      let inside = number-inside over a is in
+      let inside = number-inside over ks a is in
       rw (
         a .number-is,
-        rest-cleared 0 [] ws₀ ws ps all (ap (λ (n : ℕ). take n ws) none) (sym none) (inside .0) same-words words,
+        rest-cleared 0 [] ks₀ ks ps all (ap (λ (n : ℕ). take n ks) none) (sym none) (inside .0) same-ranks ranks,
         rest-cleared (pos 0) [] cs₀ cs ds all (ap (λ (n : ℕ). take n cs) none) (sym none) (inside .1) same-coefficients coefficients,
       )
+
+-- ---- And back: a sum that was written by ranks stands there by words.
+
+pub ranked-added : (f : Formed Sum) → ((s : Sum) → f ≡ formed s → Holdable s) → (ks₀ : List ℕ) (cs₀ : List ℤ) {answer : Formed ℕ} (ks : List ℕ) {cs : List ℤ} → (answer, ks, cs) ≡ rankedInto f ks₀ cs₀
+    → Added f answer (wordsAt ks) cs
+unfolding rankedInto
+ranked-added (formed s) holdable ks₀ cs₀ ks {cs} told =
+    let front = written-front (ranksOf s) ks₀ (ap (λ x. x .1) told) (length-map (wordsOf s) rankOf ∙ length-map s _) .0 in
+    let words : take (length s) (wordsAt ks) ≡ wordsOf s = sym (map-take wordAt (length s) ks) ∙ ap wordsAt front ∙ words-again (wordsOf s) (each-valid (holds (holdable s refl))) in
+    record {
+      number-is = ap (λ x. x .0) told;
+      words-are = λ t e. subst (λ (u : Sum). take (length u) (wordsAt ks) ≡ wordsOf u) (inside t e) words;
+      coefficients-are = λ t e.
+          subst (λ (u : Sum). take (length u) cs ≡ coefficientsOf u) (inside t e) (written-front (coefficientsOf s) cs₀ (ap (λ x. x .2) told) (length-map s _) .0);
+    }
+  where
+    inside : (t : Sum) → formed s ≡ formed t → s ≡ t
+    inside t e = cc
+ranked-added over holdable ks₀ cs₀ ks told = record { number-is = ap (λ x. x .0) told; words-are = λ t e. absurd (never t e); coefficients-are = λ t e. absurd (never t e) }
+  where
+    never : (t : Sum) → over ≡ formed t → ⊥
+    never t e = let z : _≡_ {A = ℕ} 0 1 = cc in omega arith

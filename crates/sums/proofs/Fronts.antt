@@ -5,7 +5,7 @@ use Prim.Native.Nat.{ℕ, _≤_}
 use native.Mathlib.Omega.{arith}
 use lib.IntN.{ℤ}
 use lib.ListN.{length, take, length-take, length-map}
-use lib.Seq.{length-take-le}
+use lib.Seq.{length-take-le, take-all}
 use Rattle.algebra.specs.Limits.{variables, mostTerms}
 use Rattle.algebra.specs.Sum.{Term, Sum}
 use Rattle.algebra.specs.Accepted.{Accepted}
@@ -15,7 +15,7 @@ use Rattle.answers.specs.Areas.{written}
 use Rattle.answers.proofs.Writes.{written-front}
 use Rattle.sums.specs.Held.{Held, HeldSum}
 use Rattle.sums.specs.Rows.{Stands}
-use Rattle.sums.proofs.Holding.{Holdable, terms-many, holdable, spells, holds, holds-sum}
+use Rattle.sums.proofs.Holding.{Holdable, as-many, terms-many, holdable, spells, holds, holds-sum}
 
 pub record Placed (s : Sum) (n : ℕ) (ws : List ℕ) (cs : List ℤ) : Type 0 where
   pub stands : Stands s n ws cs
@@ -77,6 +77,15 @@ front-written {s} ws₀ cs₀ words coefficients many holdable words-room coeffi
       words-room = words-room;
       coefficients-room = coefficients-room;
     }
+
+-- a sum was copied there
+pub front-copied : {tp : List ℕ} {tc : List ℤ} → Held tp tc → (ws₀ : List ℕ) (cs₀ : List ℤ) {ws : List ℕ} {cs : List ℤ} → ws ≡ written (take (length tp) tp) ws₀ → cs ≡ written (take (length tp) tc) cs₀
+    → mostTerms ≡ length ws → mostTerms ≡ length cs → Front (terms tp tc) ws cs (length tp)
+front-copied {tp} {tc} held ws₀ cs₀ words coefficients =
+    front-written ws₀ cs₀
+    (words ∙ ap (λ l. written l ws₀) (take-all (length tp) tp (omega arith) ∙ held .words-are))
+    (coefficients ∙ ap (λ l. written l cs₀) (take-all (length tp) tc (omega (arith, as-many held)) ∙ held .coefficients-are))
+    (terms-many held) (holdable held)
 
 module _ {s : Sum} {ws : List ℕ} {cs : List ℤ} {n : ℕ} (f : Front s ws cs n) where
   pub front-placed : Placed s n ws cs

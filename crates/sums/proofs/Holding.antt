@@ -7,7 +7,7 @@ use native.Mathlib.Omega.{arith}
 use native.Mathlib.Numerals.{add-one}
 use lib.Dec.{T}
 use lib.IntN.{ℤ, pos, natAbs}
-use lib.ListN.{length, getD, take, length-map}
+use lib.ListN.{length, getD, take, drop, length-map}
 use lib.Seq.{take-suc}
 use Rattle.algebra.specs.Limits.{variables, largestDegree, mostTerms}
 use Rattle.algebra.specs.Pattern.{Pattern, degree}
@@ -28,6 +28,16 @@ pub map-at : {A B : Type 0} (f : A → B) (l : List A) (k : ℕ) (d : A) (e : B)
 map-at f [] k d e h = absurd (omega arith)
 map-at f (a ∷ l) zero d e h = refl
 map-at f (a ∷ l) (suc k) d e h = map-at f l k d e (omega arith)
+
+pub map-take : {A B : Type 0} (f : A → B) (i : ℕ) (l : List A) → map f (take i l) ≡ take i (map f l)
+map-take f zero l = refl
+map-take f (suc i) [] = refl
+map-take f (suc i) (x ∷ l) = ap (λ r. f x ∷ r) (map-take f i l)
+
+pub map-drop : {A B : Type 0} (f : A → B) (i : ℕ) (l : List A) → map f (drop i l) ≡ drop i (map f l)
+map-drop f zero l = refl
+map-drop f (suc i) [] = refl
+map-drop f (suc i) (x ∷ l) = map-drop f i l
 
 pub every-at : (P : Pattern → Type 0) (s : Sum) (k : ℕ) (d : Term) → k < length s → Every P s → P (getD s k d .pattern)
 every-at P [] k d h e = absurd (omega arith)

@@ -12,9 +12,10 @@ pub mod Merging
 pub mod Closing
 pub mod Backwards
 pub mod Moving
+pub mod Ranking
 pub mod Gathering
-pub mod Adding
 pub mod Multiplying
+pub mod ByTerm
 pub mod Pairing
 pub mod Clearing
 pub mod Raising

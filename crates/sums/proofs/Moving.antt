@@ -1,6 +1,6 @@
 -- What the loop keeps that merges a row into the areas of a running sum: what was merged stands behind, and what is left of the sum where it was.
 use mathlib.Core.Path.{_≡_, refl, sym, _∙_, ap, ap₂, subst}
-use mathlib.Core.List.{List, [], _∷_, _++_, map, map-append}
+use mathlib.Core.List.{List, _∷_, _++_, map, map-append}
 use Prim.Native.Nat.{ℕ, zero, suc, _+_, _*_, _-_, _≤_, _<_, Ordering·lt, Ordering·eq, Ordering·gt}
 use native.Mathlib.Omega.{arith}
 use lib.IntN.{ℤ, pos, natAbs, _+ℤ_, _*ℤ_}
@@ -21,7 +21,7 @@ use Rattle.algebra.proofs.Sums.Held.{word-for}
 use Rattle.answers.proofs.Signed.{fits-abs}
 use Rattle.sums.specs.Held.{Held}
 use Rattle.sums.specs.Rows.{CanMerge, joined, closed, Gapped}
-use Rattle.sums.proofs.Holding.{as-many, terms-many, term-at, size-at, each-valid, holdable}
+use Rattle.sums.proofs.Holding.{map-take, as-many, terms-many, term-at, size-at, each-valid, holdable}
 use Rattle.sums.proofs.Standing.{lastStands, there-is, fewer-valid}
 use Rattle.sums.proofs.MakeRow.{row-length, row-term, low-enough, product-size, product-fits}
 use Rattle.sums.proofs.Multiplying.{row-held}
@@ -34,11 +34,6 @@ use Rattle.sums.proofs.Backwards.{Backwards, kept, front-kept, behind}
 
 coefficient-of : {t : Term} {c : ℤ} {p : Pattern} → t ≡ term c p → c ≡ t .coefficient
 coefficient-of e = sym (ap (λ (u : Term). u .coefficient) e)
-
-map-take : {A B : Type 0} (f : A → B) (i : ℕ) (l : List A) → map f (take i l) ≡ take i (map f l)
-map-take f zero l = refl
-map-take f (suc i) [] = refl
-map-take f (suc i) (x ∷ l) = ap (λ r. f x ∷ r) (map-take f i l)
 
 -- the terms that are left in the first places of an area, and those that were merged behind them, are all
 all-stands : {A : Type 0} (f : Term → A) {area₀ area : List A} {m k : ℕ} (running merged : Sum) (n i : ℕ) → Backwards area₀ m area k (map f merged) → i ≤ k

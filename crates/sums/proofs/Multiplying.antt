@@ -5,7 +5,7 @@ use Prim.Native.Nat.{ℕ, zero, suc, _+_, _*_, _≤_}
 use native.Mathlib.Omega.{arith}
 use native.Mathlib.Nat.{le-refl}
 use lib.IntN.{ℤ}
-use lib.ListN.{length, take, drop, length-append, take-append-drop}
+use lib.ListN.{length, take, drop, length-append, length-map, take-append-drop}
 use types.Run.{OneOf}
 use denote.Enum.Declared.{tagOf}
 use Rattle.algebra.specs.Limits.{variables, largestDegree, mostTerms, largestWeight}
@@ -14,6 +14,7 @@ use Rattle.algebra.specs.Sum.{Term, Sum, inOrder, degreeOf, weight}
 use Rattle.algebra.specs.Collect.{insert, gather, dropZeros, spread}
 use Rattle.algebra.specs.Arithmetic.{row, pairs, _⊗_, productSpread}
 use Rattle.algebra.specs.Word.{terms, termsBy}
+use Rattle.algebra.specs.Rank.{wordAt, wordsAt}
 use Rattle.algebra.specs.Held.{firstTerms}
 use Rattle.algebra.proofs.Patterns.Laws.{times-length, times-degree}
 use Rattle.algebra.proofs.Sums.Every.{Every, collect-every, row-every, pairs-every, Long, UpTo, degree-every, every-degree}
@@ -36,13 +37,13 @@ use Rattle.sums.proofs.MakeRow.{row-length}
 
 -- ---- Parts of a sum.
 
-pub every-drop : (P : Pattern → Type 0) (k : ℕ) (s : Sum) → Every P s → Every P (drop k s)
-every-drop P zero s e = e
-every-drop P (suc k) [] e = tt
-every-drop P (suc k) (t ∷ s) e = every-drop P k s (e .1)
+pub every-take : (P : Pattern → Type 0) (k : ℕ) (s : Sum) → Every P s → Every P (take k s)
+every-take P zero s e = tt
+every-take P (suc k) [] e = tt
+every-take P (suc k) (t ∷ s) e = (e .0, every-take P k s (e .1))
 
-pub weight-drop : (k : ℕ) (s : Sum) → weight (drop k s) ≤ weight s
-weight-drop k s = omega (arith, append-weight (take k s) (drop k s), ap weight (take-append-drop k s))
+pub weight-take : (k : ℕ) (s : Sum) → weight (take k s) ≤ weight s
+weight-take k s = omega (arith, append-weight (take k s) (drop k s), ap weight (take-append-drop k s))
 
 pub pairs-append : (s r t : Sum) → pairs (s ++ r) t ≡ pairs s t ++ pairs r t
 unfolding pairs
@@ -80,7 +81,7 @@ row-held u {t} long second high = record {
   few = omega (arith, row-length u t, second .few);
 }
 
--- ---- Two factors, and the rows of the first from the k-th on.
+-- ---- Two factors, and the rows of the first, or of the part l of it.
 
 pub record Factors (s t : Sum) : Type 0 where
   pub first : Holdable s
@@ -89,13 +90,19 @@ pub record Factors (s t : Sum) : Type 0 where
   pub light : weight s * weight t ≤ largestWeight
 
 module _ {s t : Sum} (f : Factors s t) where
-  pub rows-long : (k : ℕ) → Every (Long variables) (pairs (drop k s) t)
-  rows-long k = pairs-every (Long variables) (Long variables) (Long variables) (times-length variables) (drop k s) t (every-drop _ k s (f .first .long)) (f .second .long)
+  pub rows-long : (l : Sum) → Every (Long variables) l → Every (Long variables) (pairs l t)
+  rows-long l long = pairs-every (Long variables) (Long variables) (Long variables) (times-length variables) l t long (f .second .long)
 
-  pub rows-low : (k : ℕ) → Every (UpTo largestDegree) (pairs (drop k s) t)
-  rows-low k =
-      pairs-every (UpTo (degreeOf s)) (UpTo (degreeOf t)) (UpTo largestDegree) (λ p q a b. omega (arith, times-degree (degreeOf s) (degreeOf t) p q a b, f .low)) (drop k s) t
-      (every-drop _ k s (degree-every _ s (le-refl _))) (degree-every _ t (le-refl _))
+  pub rows-low : (l : Sum) → Every (UpTo (degreeOf s)) l → Every (UpTo largestDegree) (pairs l t)
+  rows-low l low =
+      pairs-every (UpTo (degreeOf s)) (UpTo (degreeOf t)) (UpTo largestDegree) (λ p q a b. omega (arith, times-degree (degreeOf s) (degreeOf t) p q a b, f .low)) l t
+      low (degree-every _ t (le-refl _))
+
+  pub all-long : Every (Long variables) (pairs s t)
+  all-long = rows-long s (f .first .long)
+
+  pub all-low : Every (UpTo largestDegree) (pairs s t)
+  all-low = rows-low s (degree-every _ s (le-refl _))
 
 -- ---- The product of two sums.
 
@@ -106,7 +113,7 @@ product-turned s t = ap₂ within (product-spread-comm s t) (product-comm s t)
 pub product-holdable : {s t : Sum} → Factors s t → productSpread s t ≤ mostTerms → Holdable (s ⊗ t)
 unfolding _⊗_
 product-holdable {s} {t} f few = record {
-  long = collect-every (Long variables) (pairs s t) (rows-long f 0);
+  long = collect-every (Long variables) (pairs s t) (all-long f);
   strict = collect-order (pairs s t);
   low = unfold _⊗_ in omega (arith, product-degree s t, f .low);
   few = unfold _⊗_ in omega (arith, product-length s t);
@@ -118,7 +125,8 @@ nothing : (ws : List ℕ) (cs : List ℤ) → firstTerms 0 ws cs ≡ []
 unfolding terms termsBy
 nothing ws cs = refl
 
-module _ {sp : List ℕ} {sc : List ℤ} {tp : List ℕ} {tc : List ℤ} (g : asked.Factors sp sc tp tc) (ws : List ℕ) (cs : List ℤ) where
+-- the ranks of both operands stand in sr and tr, and the running sum, which is empty, in ks and cs
+module _ {sp : List ℕ} {sc : List ℤ} {tp : List ℕ} {tc : List ℤ} (g : asked.Factors sp sc tp tc) (sr tr : List ℕ) (first : wordsAt sr ≡ sp) (second : wordsAt tr ≡ tp) (ks : List ℕ) (cs : List ℤ) where
   abbrev s : Sum
   s = terms sp sc
 
@@ -128,26 +136,26 @@ module _ {sp : List ℕ} {sc : List ℤ} {tp : List ℕ} {tc : List ℤ} (g : as
   factors : Factors (terms sp sc) (terms tp tc)
   factors = record { first = holdable (g .first); second = holdable (g .second); low = g .low; light = g .light }
 
-  pub can-add : RoomFor 0 (length sp) (length tp) (length ws) → RoomFor 0 (length sp) (length tp) (length cs) → CanAdd ws cs 0 sp sc tp tc
+  pub can-add : RoomFor 0 (length sp) (length tp) (length ks) → RoomFor 0 (length sp) (length tp) (length cs) → CanAdd (wordsAt ks) cs 0 (wordsAt sr) sc (wordsAt tr) tc
   unfolding weight
-  can-add words-room coefficients-room = record {
+  can-add words-room coefficients-room = rw (first, second) record {
     running = holds holdable-none;
     few = omega arith;
     first = g .first;
     second = g .second;
     low = g .low;
-    light = omega (arith, g .light, ap weight (nothing ws cs));
-    words-room = words-room;
+    light = omega (arith, g .light, ap weight (nothing (wordsAt ks) cs));
+    words-room = rw (length-map ks wordAt) words-room;
     coefficients-room = coefficients-room;
   }
 
   -- what is answered
-  module _ (r : declared.Formed) {ws' : List ℕ} {cs' : List ℤ} (a : Added (withRow (pairs (terms sp sc) (terms tp tc)) (firstTerms 0 ws cs)) (formedOf r) ws' cs') where
-    told : Added (within (spread (pairs s t)) (gather (pairs s t))) (formedOf r) ws' cs'
+  module _ (r : declared.Formed) (ks' : List ℕ) {cs' : List ℤ} (a : Added (withRow (pairs (terms (wordsAt sr) sc) (terms (wordsAt tr) tc)) (firstTerms 0 (wordsAt ks) cs)) (formedOf r) (wordsAt ks') cs') where
+    told : Added (within (spread (pairs s t)) (gather (pairs s t))) (formedOf r) (wordsAt ks') cs'
     unfolding withRow
     told =
-        let all = ap (λ l. pairs s t ++ l) (nothing ws cs) ∙ append-nil (pairs s t) in
-        subst (λ l. Added (within (spread l) (gather l)) (formedOf r) ws' cs') all a
+        let all = ap (λ l. pairs s t ++ l) (nothing (wordsAt ks) cs) ∙ append-nil (pairs s t) in
+        subst (λ l. Added (within (spread l) (gather l)) (formedOf r) (wordsAt ks') cs') all (rw (first, second) at a)
 
     pub stops : OneOf (1 ∷ []) (tagOf the-type r) → (ps : List ℕ) (ds : List ℤ) → (formedOf r, ps, ds) ≡ formedInto (productOf (terms sp sc) (terms tp tc)) ps ds
     unfolding productOf productSpread
@@ -155,10 +163,10 @@ module _ {sp : List ℕ} {sc : List ℤ} {tp : List ℕ} {tc : List ℤ} (g : as
         let no = number-refused (spread (pairs s t)) (gather (pairs s t)) r key (told .number-is) in
         over-into (spread (pairs s t)) (s ⊗ t) ps ds r (no .0) (no .1)
 
-    pub multiplied : {all : ℕ} → r ≡ Terms all → Placed (gather (pairs (terms sp sc) (terms tp tc))) all ws' cs'
+    pub multiplied : {all : ℕ} → r ≡ Terms all → Placed (gather (pairs (terms sp sc) (terms tp tc))) all (wordsAt ks') cs'
     multiplied is =
-        let yes = added-given (spread (pairs s t)) (gather (pairs s t)) ws' cs' r is told in
-        gathered-placed (pairs s t) (rows-long factors 0) (rows-low factors 0) (yes .0) (yes .1)
+        let yes = added-given (spread (pairs s t)) (gather (pairs s t)) (wordsAt ks') cs' r is told in
+        gathered-placed (pairs s t) (all-long factors) (all-low factors) (yes .0) (yes .1)
 
 -- without what has cancelled it is the product
 pub ended : (s t : Sum) {ws : List ℕ} {cs : List ℤ} {all : ℕ} → Placed (gather (pairs s t)) all ws cs → formed (dropZeros (firstTerms all ws cs)) ≡ productOf s t

@@ -10,9 +10,9 @@ use Rattle.sums.specs.declared.Formed as declared
 use Rattle.sums.specs.declared.Formed.the-variants.{Terms, Over}
 use Rattle.sums.proofs.integer.Reads as integer
 use Rattle.sums.proofs.variable.Reads as variable
-use Rattle.sums.proofs.sum.Reads as sum
 use Rattle.sums.proofs.product.Reads as product
 use Rattle.sums.proofs.power.Reads as power
+use Rattle.sums.proofs.rows.rank_words.Reads as rank-words
 use Rattle.sums.proofs.rows.add_product.Reads as add-product
 use Rattle.sums.proofs.rows.finish.Reads as finish
 
@@ -46,14 +46,14 @@ integer-one k a r r' e e' h h' = told-one r r' (same h h')
 pub variable-one : OneLent variable.Learnt {L = Areas} (λ k e. (now (e .1 .0), now (e .1 .1 .0)))
 variable-one k a r r' e e' h h' = told-one r r' (same h h')
 
-pub sum-one : OneLent sum.Learnt {L = Areas} (λ k e. (now (e .1 .1 .1 .1 .0), now (e .1 .1 .1 .1 .1 .0)))
-sum-one k a r r' e e' h h' = told-one r r' (same h h')
-
 pub product-one : OneLent product.Learnt {L = Areas} (λ k e. (now (e .1 .1 .1 .1 .0), now (e .1 .1 .1 .1 .1 .0)))
 product-one k a r r' e e' h h' = told-one r r' (same h h')
 
 pub power-one : OneLent power.Learnt {L = Areas} (λ k e. (now (e .1 .1 .1 .0), now (e .1 .1 .1 .1 .0)))
 power-one k a r r' e e' h h' = told-one r r' (same h h')
+
+pub rank-words-one : OneLent rank-words.Learnt {L = List ℕ} (λ k e. now (e .1 .0))
+rank-words-one k a r r' e e' h h' = (refl, same h h')
 
 pub add-product-one : OneLent add-product.Learnt {L = Areas} (λ k e. (now (e .0), now (e .1 .0)))
 add-product-one k a r r' e e' h h' = told-one r r' (same h h')

@@ -1,7 +1,7 @@
 -- Rows of products, added to a running sum in two areas of the caller's own.
 use mathlib.Core.Path.{_≡_}
 use mathlib.Core.Bool.{_||_}
-use mathlib.Core.List.{List, _++_}
+use mathlib.Core.List.{List, _++_, map}
 use Prim.Native.Nat.{ℕ, _+_, _*_, _-_, _≤_}
 use lib.Dec.{T, leb}
 use lib.IntN.{ℤ, natAbs}
@@ -12,7 +12,9 @@ use Rattle.algebra.specs.Sum.{term, Sum, degreeOf, weight}
 use Rattle.algebra.specs.Collect.{gather}
 use Rattle.algebra.specs.Arithmetic.{row}
 use Rattle.algebra.specs.Word.{exponents, terms, Valid}
+use Rattle.algebra.specs.Rank.{rankOf}
 use Rattle.algebra.specs.Held.{wordsOf, coefficientsOf, firstTerms}
+use Rattle.answers.specs.Areas.{written}
 use Rattle.sums.specs.Held.{Held}
 use Rattle.sums.specs.Formed.{Formed, Formed.formed, Formed.over}
 
@@ -27,6 +29,13 @@ pub record CanMerge (ws : List ℕ) (cs : List ℤ) (n w : ℕ) (c : ℤ) (tp : 
   pub light : natAbs c * weight (terms tp tc) + weight (firstTerms n ws cs) ≤ largestWeight
   pub words-room : n + length tp ≤ length ws
   pub coefficients-room : n + length tp ≤ length cs
+
+-- the row alone
+pub record HasTerm (w : ℕ) (c : ℤ) (tp : List ℕ) (tc : List ℤ) : Type 0 where
+  pub factor : Held tp tc
+  pub valid : Valid w
+  pub low : degree (exponents w) + degreeOf (terms tp tc) ≤ largestDegree
+  pub light : natAbs c * weight (terms tp tc) ≤ largestWeight
 
 -- the row and the running sum together; what cancels stays
 abbrev pub joined : ℤ → ℕ → List ℕ → List ℤ → ℕ → List ℕ → List ℤ → Sum
@@ -69,6 +78,14 @@ pub record CanAdd (ws : List ℕ) (cs : List ℤ) (n : ℕ) (sp : List ℕ) (sc 
 abbrev pub counted : Formed Sum → Formed ℕ
 counted (formed s) = formed (length s)
 counted over = over
+
+-- the number of terms, and two areas with the terms in their first places, by ranks; without a sum the areas stay
+abbrev pub ranksOf : Sum → List ℕ
+ranksOf s = map rankOf (wordsOf s)
+
+unfoldable pub rankedInto : Formed Sum → List ℕ → List ℤ → Formed ℕ × List ℕ × List ℤ
+rankedInto (formed s) ks cs = (formed (length s), written (ranksOf s) ks, written (coefficientsOf s) cs)
+rankedInto over ks cs = (over, ks, cs)
 
 -- the code's answer, and the two areas: a sum stands in their first places; without a sum nothing is said of them
 pub record Added (f : Formed Sum) (answer : Formed ℕ) (ws : List ℕ) (cs : List ℤ) : Type 0 where

@@ -4,14 +4,16 @@ use algebra::MOST_TERMS;
 use algebra::Pattern;
 use answers::areas;
 ghost use mathlib.Core.Path.{_≡_};
-ghost use Prim.Native.Nat.{_+_, _≤_, _<_};
+ghost use Prim.Native.Nat.{_≤_, _<_};
 ghost use lib.ListN.{length};
 ghost use Rattle.algebra.specs.Limits.{variables};
-ghost use Rattle.algebra.specs.Arithmetic.{integer, variable};
-ghost use Rattle.algebra.specs.Word.{terms};
-ghost use Rattle.sums.specs.Asked.{Room, Addends, Factors, Base};
-ghost use Rattle.sums.specs.Formed.{formedOf, Formed.formed, sumOf, productOf, powerOf, formedInto};
-ghost use Rattle.sums.specs.Rows.{RoomFor};
+ghost use Rattle.algebra.specs.Sum.{term};
+ghost use Rattle.algebra.specs.Collect.{dropZeros};
+ghost use Rattle.algebra.specs.Arithmetic.{integer, variable, row};
+ghost use Rattle.algebra.specs.Word.{exponents, terms};
+ghost use Rattle.sums.specs.Asked.{Room, Factors, Base};
+ghost use Rattle.sums.specs.Formed.{formedOf, Formed.formed, productOf, powerOf, formedInto};
+ghost use Rattle.sums.specs.Rows.{HasTerm, RoomFor};
 
 mod binomial;
 mod monomial;
@@ -28,8 +30,10 @@ pub enum Formed {
 // A running sum of 128 terms and a row of 128 more.
 pub const MOST_PLACES: usize = MOST_TERMS + MOST_TERMS;
 
-// Where a few terms are formed.
-const FEW_PLACES: usize = 16;
+// Sums of a few terms, and their products.
+const FEW_TERMS: usize = 8;
+
+const FEW_PLACES: usize = FEW_TERMS * FEW_TERMS;
 
 // ---- Sums of one term at most.
 
@@ -60,81 +64,71 @@ pub fn variable(v: u64, patterns: &mut [u64], coefficients: &mut [i64]) -> Forme
 
 // ---- Sums formed of others. The running sum stands in arrays of its own: the areas are written when nothing can be refused any more.
 
-// The sum of two sums, formed in two arrays of the caller's own: the second is the running sum, the first the only row.
-fn sum_in(
-    sp: &[u64],
-    sc: &[i64],
+// The product by one term needs no running sum: patterns that differ still do, and stay in order.
+fn multiply_by_term(
+    word: u64,
+    c: i64,
     tp: &[u64],
     tc: &[i64],
-    gp: &mut [u64],
-    gc: &mut [i64],
     patterns: &mut [u64],
     coefficients: &mut [i64],
 ) -> Formed
-    requires { ⌜ Addends (now sp) (now sc) (now tp) (now tc) ⌝ }
-    requires { ⌜ length (now tp) + length (now sp) ≤ length (now gp) ⌝ }
-    requires { ⌜ length (now tp) + length (now sp) ≤ length (now gc) ⌝ }
+    requires { ⌜ HasTerm word c (now tp) (now tc) ⌝ }
     requires { ⌜ Room (now patterns) (now coefficients) ⌝ }
-    ensures { λ r. ⌜ (formedOf r, now (patterns .exit), now (coefficients .exit)) ≡ formedInto (sumOf (terms (now (sp .entry)) (now (sc .entry))) (terms (now (tp .entry)) (now (tc .entry)))) (now (patterns .entry)) (now (coefficients .entry)) ⌝ }
+    ensures { λ r. ⌜ (formedOf r, now (patterns .exit), now (coefficients .exit)) ≡ formedInto (formed (dropZeros (row (term c (exponents word)) (terms (now (tp .entry)) (now (tc .entry)))))) (now (patterns .entry)) (now (coefficients .entry)) ⌝ }
 {
     let n = tp.len();
-    areas::copy_words(gp, tp, n);
-    areas::copy_coefficients(gc, tc, n);
-    let all = rows::add_row(gp, gc, n, Pattern::empty(), 1, sp, sc);
-    if all > MOST_TERMS {
-        return Formed::Over;
+    let mut count = 0;
+    let mut k = 0;
+    while k < n {
+        let d = tc[k];
+        let value = c * d;
+        if value == 0 {
+            k += 1;
+        } else {
+            let pattern = Pattern(word).product(Pattern(tp[k]));
+            patterns[count] = pattern.0;
+            coefficients[count] = value;
+            count += 1;
+            k += 1;
+        }
     }
-    rows::finish(&gp[0..all], &gc[0..all], patterns, coefficients)
+    Formed::Terms(count)
 }
 
-// Small sums are formed in small arrays: to clear large ones would take longer than to add.
-pub fn sum(
-    sp: &[u64],
-    sc: &[i64],
-    tp: &[u64],
-    tc: &[i64],
-    patterns: &mut [u64],
-    coefficients: &mut [i64],
-) -> Formed
-    requires { ⌜ Addends (now sp) (now sc) (now tp) (now tc) ⌝ }
-    requires { ⌜ Room (now patterns) (now coefficients) ⌝ }
-    ensures { λ r. ⌜ (formedOf r, now (patterns .exit), now (coefficients .exit)) ≡ formedInto (sumOf (terms (now (sp .entry)) (now (sc .entry))) (terms (now (tp .entry)) (now (tc .entry)))) (now (patterns .entry)) (now (coefficients .entry)) ⌝ }
-{
-    if sp.len() + tp.len() <= FEW_PLACES {
-        let mut gp = [0u64; FEW_PLACES];
-        let mut gc = [0i64; FEW_PLACES];
-        return sum_in(sp, sc, tp, tc, &mut gp, &mut gc, patterns, coefficients);
-    }
-    let mut gp = [0u64; MOST_PLACES];
-    let mut gc = [0i64; MOST_PLACES];
-    sum_in(sp, sc, tp, tc, &mut gp, &mut gc, patterns, coefficients)
-}
-
-// The product, formed in two arrays of the caller's own.
+// The product, formed in arrays of the caller's own: two for the running sum, and one for the ranks of each operand.
 fn multiply_in(
     sp: &[u64],
     sc: &[i64],
     tp: &[u64],
     tc: &[i64],
-    gp: &mut [u64],
+    gr: &mut [u64],
     gc: &mut [i64],
+    sr: &mut [u64],
+    tr: &mut [u64],
     patterns: &mut [u64],
     coefficients: &mut [i64],
 ) -> Formed
     requires { ⌜ Factors (now sp) (now sc) (now tp) (now tc) ⌝ }
-    requires { ⌜ RoomFor 0 (length (now sp)) (length (now tp)) (length (now gp)) ⌝ }
+    requires { ⌜ RoomFor 0 (length (now sp)) (length (now tp)) (length (now gr)) ⌝ }
     requires { ⌜ RoomFor 0 (length (now sp)) (length (now tp)) (length (now gc)) ⌝ }
+    requires { ⌜ length (now sp) ≤ length (now sr) ⌝ }
+    requires { ⌜ length (now tp) ≤ length (now tr) ⌝ }
     requires { ⌜ Room (now patterns) (now coefficients) ⌝ }
     ensures { λ r. ⌜ (formedOf r, now (patterns .exit), now (coefficients .exit)) ≡ formedInto (productOf (terms (now (sp .entry)) (now (sc .entry))) (terms (now (tp .entry)) (now (tc .entry)))) (now (patterns .entry)) (now (coefficients .entry)) ⌝ }
 {
-    let formed = rows::add_pairs(gp, gc, 0, sp, sc, tp, tc);
+    let m = sp.len();
+    let n = tp.len();
+    rows::rank_words(sp, sr);
+    rows::rank_words(tp, tr);
+    let formed = rows::add_pairs(gr, gc, 0, &sr[0..m], sc, &tr[0..n], tc);
     let Formed::Terms(all) = formed else {
         return formed;
     };
-    rows::finish(&gp[0..all], &gc[0..all], patterns, coefficients)
+    rows::finish(&gr[0..all], &gc[0..all], patterns, coefficients)
 }
 
-// The product, with a row for each term of the first operand; in small arrays if it is small.
+// The product, with a row for each term of the first operand. Small ones are formed in small arrays: to clear large ones would take longer than to multiply.
 fn multiply(
     sp: &[u64],
     sc: &[i64],
@@ -144,17 +138,48 @@ fn multiply(
     coefficients: &mut [i64],
 ) -> Formed
     requires { ⌜ Factors (now sp) (now sc) (now tp) (now tc) ⌝ }
+    requires { ⌜ length (now sp) ≤ length (now tp) ⌝ }
     requires { ⌜ Room (now patterns) (now coefficients) ⌝ }
     ensures { λ r. ⌜ (formedOf r, now (patterns .exit), now (coefficients .exit)) ≡ formedInto (productOf (terms (now (sp .entry)) (now (sc .entry))) (terms (now (tp .entry)) (now (tc .entry)))) (now (patterns .entry)) (now (coefficients .entry)) ⌝ }
 {
-    if sp.len() * tp.len() <= FEW_PLACES {
-        let mut gp = [0u64; FEW_PLACES];
-        let mut gc = [0i64; FEW_PLACES];
-        return multiply_in(sp, sc, tp, tc, &mut gp, &mut gc, patterns, coefficients);
+    if sp.len() == 1 {
+        let c = sc[0];
+        return multiply_by_term(sp[0], c, tp, tc, patterns, coefficients);
     }
-    let mut gp = [0u64; MOST_PLACES];
+    if tp.len() <= FEW_TERMS {
+        let mut gr = [0u64; FEW_PLACES];
+        let mut gc = [0i64; FEW_PLACES];
+        let mut sr = [0u64; FEW_TERMS];
+        let mut tr = [0u64; FEW_TERMS];
+        return multiply_in(
+            sp,
+            sc,
+            tp,
+            tc,
+            &mut gr,
+            &mut gc,
+            &mut sr,
+            &mut tr,
+            patterns,
+            coefficients,
+        );
+    }
+    let mut gr = [0u64; MOST_PLACES];
     let mut gc = [0i64; MOST_PLACES];
-    multiply_in(sp, sc, tp, tc, &mut gp, &mut gc, patterns, coefficients)
+    let mut sr = [0u64; MOST_TERMS];
+    let mut tr = [0u64; MOST_TERMS];
+    multiply_in(
+        sp,
+        sc,
+        tp,
+        tc,
+        &mut gr,
+        &mut gc,
+        &mut sr,
+        &mut tr,
+        patterns,
+        coefficients,
+    )
 }
 
 // The product, with a row for each term of the shorter operand. It is also one step of a power.

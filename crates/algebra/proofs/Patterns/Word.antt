@@ -47,9 +47,6 @@ module _ (p : Pattern) (long : length p ≡ variables) (low : degree p ≤ large
   pub word-valid : Valid (word p)
   word-valid = record { is = ap word exponents-word; low = rw exponents-word low }
 
-pub exponents-empty : exponents 0 ≡ emptyPattern variables
-exponents-empty = rw word-empty at (exponents-word (emptyPattern variables) refl (omega (arith, empty-degree variables)))
-
 pub empty-valid : Valid 0
 empty-valid = rw word-empty at (word-valid (emptyPattern variables) refl (omega (arith, empty-degree variables)))
 
@@ -85,11 +82,15 @@ module _ (w : ℕ) (valid : Valid w) where
   unfolding word
   valid-degree = ap (λ (k : ℕ). k % (fieldSize - 1)) (sym (valid .is)) ∙ word-degree (fieldSize - 1) (exponents w) (omega (arith, valid .low))
 
-  pub quotient-small : w / (fieldSize - 1) < 2 ^ 56
+  -- a pattern of degree d has no larger word than the power d of a
+  pub valid-most : w ≤ degree (exponents w) * 2 ^ 56
   unfolding word
-  quotient-small =
+  valid-most =
       let most = word-most fieldSize (omega arith) 7 (exponents w) (omega (arith, exponents-length w)) in
-      omega (arith, most, valid .is, valid .low)
+      omega (arith, most, valid .is)
+
+  pub quotient-small : w / (fieldSize - 1) < 2 ^ 56
+  quotient-small = omega (arith, valid-most, valid .low)
 
 module _ (v w : ℕ) (a : Valid v) (b : Valid w) where
   -- the product's word is the words' sum

@@ -4,15 +4,16 @@ use mathlib.Core.Bool.{Bool, true, false, _||_, or-comm, or-assoc}
 use mathlib.Core.List.{List, [], _∷_, _++_, map}
 use Prim.Native.Nat.{ℕ, _≤_}
 use native.Mathlib.Omega.{arith}
-use lib.IntN.{pos, _+ℤ_}
+use lib.IntN.{pos, _+ℤ_, +ℤ-comm}
 use lib.ListN.{length}
 use Rattle.algebra.specs.Pattern.{Pattern, times, same}
 use Rattle.algebra.specs.Sum.{Term, term, Sum}
-use Rattle.algebra.specs.Collect.{occurs, countNew, spread}
+use Rattle.algebra.specs.Collect.{gather, occurs, countNew, spread}
 use Rattle.algebra.specs.Arithmetic.{timesTerm, row, pairs, sumSpread, productSpread}
-use Rattle.algebra.specs.Value.{total, coefficient}
+use Rattle.algebra.specs.Value.{total, coefficientIn, coefficient}
 use Rattle.algebra.proofs.Numbers.Test.{or-mix}
 use Rattle.algebra.proofs.Patterns.Laws.{times-comm}
+use Rattle.algebra.proofs.Sums.Total.{total-append}
 use Rattle.algebra.proofs.Sums.Occurs.{occurs-cons, spread-gather}
 use Rattle.algebra.proofs.Sums.Equal.{if-none, gather-equal}
 
@@ -51,6 +52,12 @@ append-occurs r (t ∷ l) m = ap (λ b. same r (t .pattern) || b) (append-occurs
 
 pub append-spread : (l m : List Term) → spread (l ++ m) ≡ spread (m ++ l)
 append-spread l m = same-spread (l ++ m) (m ++ l) (λ r. append-occurs r l m ∙ or-comm (occurs r l) (occurs r m) ∙ sym (append-occurs r m l))
+
+-- and gathering does not depend on which list comes first
+pub gather-turned : (l m : List Term) → gather (l ++ m) ≡ gather (m ++ l)
+gather-turned l m =
+    gather-equal (l ++ m) (m ++ l) (λ r. append-occurs r l m ∙ or-comm (occurs r l) (occurs r m) ∙ sym (append-occurs r m l))
+    (λ r. let f = coefficientIn r in unfold coefficient in (total-append f l m ∙ +ℤ-comm (total f l) (total f m) ∙ sym (total-append f m l)))
 
 count-least : (b : Bool) (k : ℕ) → k ≤ countNew b k
 unfolding countNew

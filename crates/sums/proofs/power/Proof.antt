@@ -9,8 +9,7 @@ use lib.ListN.{replicate}
 use Rattle.algebra.specs.Limits.{mostTerms}
 use Rattle.sums.specs.Formed.{formedInto}
 use Rattle.sums.proofs.Holding.{as-many}
-use Rattle.sums.proofs.Fronts.{front-few, front-held}
-use Rattle.sums.proofs.Adding.{front-copied}
+use Rattle.sums.proofs.Fronts.{front-copied, front-few, front-held}
 use Rattle.sums.proofs.Raising.{Raising, power-none, start, product-low, product-light, stops, again, ended}
 use Rattle.sums.proofs.RaisingTwo.{few}
 use Rattle.sums.proofs.power.Statement.{statement}

@@ -11,7 +11,7 @@ use Rattle.sums.proofs.product.Tie as tie
 multiply-requires : tie.Need-multiply-requires
 multiply-requires c κs =
     let pre = c .before .before .before .before .before .before .pre in
-    (record { first = pre .0 .second; second = pre .0 .first; low = omega (arith, pre .0 .low); light = omega (arith, pre .0 .light) }, pre .1)
+    (record { first = pre .0 .second; second = pre .0 .first; low = omega (arith, pre .0 .low); light = omega (arith, pre .0 .light) }, (omega arith, pre .1))
 
 same-length : tie.Need-same-length
 same-length c = search needs
@@ -25,7 +25,7 @@ returns c =
     c .before .before .before .multiply .ensures ∙ ap (λ x. formedInto x (args .patterns .now) (args .coefficients .now)) (product-turned (terms (args .tp .now) (args .tc .now)) (terms (args .sp .now) (args .sc .now)))
 
 multiply-requires-2 : tie.Need-multiply-requires-2
-multiply-requires-2 c κs = search needs
+multiply-requires-2 c κs = let pre = c .before .before .before .before .before .before .pre in (pre .0, (omega arith, pre .1))
 
 same-length-3 : tie.Need-same-length-3
 same-length-3 c = search needs

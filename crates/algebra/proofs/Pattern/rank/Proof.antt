@@ -1,7 +1,7 @@
 -- `Pattern::rank` meets its contract: a valid word's degree is its remainder by 255, and the quotient is below 2^56.
-use mathlib.Core.Path.{_≡_, _∙_, ap}
-use Prim.Native.Nat.{ℕ, _+_, _*_, _/_, _%_, _^_}
+use Prim.Native.Nat.{_^_}
 use native.Mathlib.Omega.{arith}
+use Rattle.algebra.specs.Rank.{rankOf}
 use Rattle.algebra.proofs.Patterns.Word.{valid-degree, quotient-small}
 use Rattle.algebra.proofs.Pattern.rank.Statement.{statement}
 use Rattle.algebra.proofs.Pattern.rank.Tie as tie
@@ -12,6 +12,7 @@ add-result c =
     omega (arith, valid-degree w (c .before .before .pre), quotient-small w (c .before .before .pre), c .before .before .pre .low)
 
 returns : tie.Need-returns
+unfolding rankOf
 returns c =
     let w = c .before .before .args .self .0 in
     omega (arith, valid-degree w (c .before .before .pre), quotient-small w (c .before .before .pre), c .before .before .pre .low)

@@ -1,24 +1,26 @@
--- `put` meets its contract: the loop keeps `Putting`.
+-- `put` meets its contract: the loop keeps `Putting`, of the words of the running sum.
 use mathlib.Core.Path.{refl, sym, _∙_, ap}
 use Prim.Native.Nat.{_+_, _-_}
 use native.Mathlib.Omega.{arith}
 use native.Mathlib.Nat.{sub-zero}
 use borrow.Author.Needs.{needs}
 use lib.IntN.{pos}
-use lib.ListN.{replicate}
+use lib.ListN.{length-map, replicate}
 use Rattle.algebra.specs.Limits.{mostTerms}
+use Rattle.algebra.specs.Rank.{wordAt, wordsAt}
 use Rattle.sums.specs.Formed.{formedInto}
-use Rattle.sums.proofs.Fronts.{placed-held, front-few}
-use Rattle.pair.proofs.Replacing.{Putting, Joining, start, can-add, rows-stop, joins, can-raise, power-stop, raises, ended}
+use Rattle.sums.proofs.Holding.{map-take}
+use Rattle.sums.proofs.Fronts.{placed-inside, placed-held, front-few}
+use Rattle.pair.proofs.Replacing.{Putting, Lent, Joining, start, can-add, rows-stop, joins, can-raise, power-stop, raises, ended}
 use Rattle.pair.proofs.putting.put.Statement.{statement}
 use Rattle.pair.proofs.putting.put.Tie as tie
 
 abbrev Inv-loop : tie.InvT-loop
-Inv-loop v largest sp sc fp fc patterns coefficients gp₀ gc₀ wp₀ wc₀ n₀ free all₀ k₀ gp gc wp wc n all k =
-    Putting v largest sp sc fp fc gp gc wp wc n all k
+Inv-loop v largest sp sc fp fc patterns coefficients gr₀ gc₀ wp₀ wc₀ pr₀ pc₀ wr₀ n₀ free all₀ k₀ gr gc wp wc pr pc wr n all k =
+    Putting v largest sp sc fp fc (wordsAt gr) gc wp wc n all k × Lent gr pr pc wr
 
 abbrev μ-loop : tie.MeasureT-loop
-μ-loop v largest sp sc fp fc patterns coefficients gp₀ gc₀ wp₀ wc₀ n₀ free all₀ k₀ gp gc wp wc n all k =
+μ-loop v largest sp sc fp fc patterns coefficients gr₀ gc₀ wp₀ wc₀ pr₀ pc₀ wr₀ n₀ free all₀ k₀ gr gc wp wc pr pc wr n all k =
     largest - k
 
 slice-aggregate-integer : tie.Need-slice-aggregate-integer Inv-loop μ-loop
@@ -29,14 +31,6 @@ slice-aggregate-integer-2 c = search needs
 
 integer-requires : tie.Need-integer-requires Inv-loop μ-loop
 integer-requires c κs = record { words = search needs; coefficients = search needs }
-
--- the power 0 stands in the arrays, and no rows are added yet
-first-rows : (d : tie.After-integer Inv-loop μ-loop)
-    → let args = d .before .before .before .before .before .before .args in
-    Joining (args .v) (args .largest) (args .sp .now) (args .sc .now) (args .fp .now) (args .fc .now) (replicate (mostTerms + mostTerms) 0) (replicate (mostTerms + mostTerms) (pos 0)) (d .integer .last .1 .0) (d .integer .last .1 .1 .0) 1 0 0
-first-rows d =
-    let pre = d .before .before .before .before .before .before .pre in
-    start (replicate (mostTerms + mostTerms) 0) (replicate (mostTerms + mostTerms) (pos 0)) (replicate mostTerms 0) (replicate mostTerms (pos 0)) (pre .0) (pre .1 .0) (pre .1 .1 .0) refl refl (d .integer .ensures) (sym (d .integer .kept .1 .0)) (sym (d .integer .kept .1 .1 .0))
 
 sub-add-rows : tie.Need-sub-add-rows Inv-loop μ-loop
 sub-add-rows c = search needs
@@ -62,8 +56,25 @@ slice-aggregate-add-rows c = search needs
 slice-aggregate-add-rows-2 : tie.Need-slice-aggregate-add-rows-2 Inv-loop μ-loop
 slice-aggregate-add-rows-2 c = search needs
 
+slice-aggregate-add-rows-3 : tie.Need-slice-aggregate-add-rows-3 Inv-loop μ-loop
+slice-aggregate-add-rows-3 c = search needs
+
+slice-aggregate-add-rows-4 : tie.Need-slice-aggregate-add-rows-4 Inv-loop μ-loop
+slice-aggregate-add-rows-4 c = search needs
+
+slice-aggregate-add-rows-5 : tie.Need-slice-aggregate-add-rows-5 Inv-loop μ-loop
+slice-aggregate-add-rows-5 c = search needs
+
+-- the power 0 stands in the arrays, and no rows are added yet
+first-rows : (d : tie.After-integer Inv-loop μ-loop)
+    → let args = d .before .before .before .before .before .before .args in
+    Joining (args .v) (args .largest) (args .sp .now) (args .sc .now) (args .fp .now) (args .fc .now) (wordsAt (replicate (mostTerms + mostTerms) 0)) (replicate (mostTerms + mostTerms) (pos 0)) (d .integer .last .1 .0) (d .integer .last .1 .1 .0) 1 0 0
+first-rows d =
+    let pre = d .before .before .before .before .before .before .pre in
+    start (wordsAt (replicate (mostTerms + mostTerms) 0)) (replicate (mostTerms + mostTerms) (pos 0)) (replicate mostTerms 0) (replicate mostTerms (pos 0)) (pre .0) (pre .1 .0) (pre .1 .1 .0) (sym (length-map (replicate (mostTerms + mostTerms) 0) wordAt)) refl (d .integer .ensures) (sym (d .integer .kept .1 .0)) (sym (d .integer .kept .1 .1 .0))
+
 add-rows-requires : tie.Need-add-rows-requires Inv-loop μ-loop
-add-rows-requires c κs = can-add (first-rows (c .before .before .before .before .before .before .before .before)) (sub-zero 1)
+add-rows-requires c κs = (can-add (first-rows (c .before .before .before .before .before .before .before .before .before .before .before)) (sub-zero 1), (record { words = search needs; coefficients = search needs }, search needs))
 
 enum-known-first : tie.Need-enum-known-first Inv-loop μ-loop
 enum-known-first c = search needs
@@ -73,13 +84,16 @@ enum-told c = search needs
 
 returns : tie.Need-returns Inv-loop μ-loop
 returns c =
-    let r = c .before .before .before .before .add-rows in
-    rows-stop (first-rows (c .before .before .before .before .before .before .before .before .before .before .before .before .before)) (sub-zero 1) (r .result) (r .ensures) (c .before .match .keys2) _ _
+    let r = c .before .before .before .before .before .before .before .add-rows in
+    rows-stop (first-rows (c .before .before .before .before .before .before .before .before .before .before .before .before .before .before .before .before .before .before .before)) (sub-zero 1) (r .result) (r .ensures) (c .before .match .keys2) _ _
 
 loop-holds : tie.Need-loop-holds Inv-loop μ-loop
 loop-holds c =
-    let r = c .before .before .before .before .before .add-rows in
-    joins (first-rows (c .before .before .before .before .before .before .before .before .before .before .before .before .before .before)) (sub-zero 1) (r .result) (r .ensures) (c .before .first .given .1) (r .kept .1 .1 .1 .1 .1 .1 .0) (r .kept .1 .1 .1 .1 .1 .1 .1 .0)
+    let r = c .before .before .before .before .before .before .before .before .add-rows in
+    let same = length-map (r .last .1 .1 .1 .1 .1 .1 .0) wordAt ∙ r .kept .1 .1 .1 .1 .1 .1 .0 ∙ sym (length-map (replicate (mostTerms + mostTerms) 0) wordAt) in (
+      joins (first-rows (c .before .before .before .before .before .before .before .before .before .before .before .before .before .before .before .before .before .before .before .before)) (sub-zero 1) (r .result) (r .ensures) (c .before .first .given .1) same (r .kept .1 .1 .1 .1 .1 .1 .1 .0),
+      record { running = sym (r .kept .1 .1 .1 .1 .1 .1 .0); part-ranks = sym (r .kept .1 .1 .1 .1 .1 .1 .1 .1 .1 .0); part-coefficients = sym (r .kept .1 .1 .1 .1 .1 .1 .1 .1 .1 .1 .0); power-ranks = sym (r .kept .1 .1 .1 .1 .1 .1 .1 .1 .1 .1 .1 .0) },
+    )
 
 slice-aggregate-raise : tie.Need-slice-aggregate-raise Inv-loop μ-loop
 slice-aggregate-raise c = search needs
@@ -87,11 +101,26 @@ slice-aggregate-raise c = search needs
 slice-aggregate-raise-2 : tie.Need-slice-aggregate-raise-2 Inv-loop μ-loop
 slice-aggregate-raise-2 c = search needs
 
+slice-aggregate-raise-3 : tie.Need-slice-aggregate-raise-3 Inv-loop μ-loop
+slice-aggregate-raise-3 c = search needs
+
+slice-aggregate-raise-4 : tie.Need-slice-aggregate-raise-4 Inv-loop μ-loop
+slice-aggregate-raise-4 c = search needs
+
 raise-requires : tie.Need-raise-requires Inv-loop μ-loop
 raise-requires c κs =
-    let loop = c .before .before .before .loop in
-    let raised = loop .inv .raised in
-    (front-few raised, (can-raise (loop .inv) (c .before .before .loop-test .taken), record { words = omega (arith, raised .words-room); coefficients = omega (arith, raised .coefficients-room) }))
+    let loop = c .before .before .before .before .before .loop in
+    let raised = loop .inv .0 .raised in
+    let spare = loop .inv .1 in (
+      front-few raised,
+      (
+        can-raise (loop .inv .0) (c .before .before .before .before .loop-test .taken),
+        (
+          record { words = omega (arith, raised .words-room); coefficients = omega (arith, raised .coefficients-room) },
+          record { words = omega (arith, spare .part-ranks); coefficients = omega (arith, spare .part-coefficients) },
+        ),
+      ),
+    )
 
 enum-known-raised : tie.Need-enum-known-raised Inv-loop μ-loop
 enum-known-raised c = search needs
@@ -101,21 +130,21 @@ enum-told-2 c = search needs
 
 returns-2 : tie.Need-returns-2 Inv-loop μ-loop
 returns-2 c =
-    let r = c .before .before .before .before .raise in
-    power-stop (c .before .before .before .before .before .before .before .before .loop .inv) (c .before .before .before .before .before .before .before .loop-test .taken) (r .result) (r .ensures) (c .before .match2 .keys2) _ _
+    let r = c .before .before .before .before .before .before .raise in
+    power-stop (c .before .before .before .before .before .before .before .before .before .before .before .before .loop .inv .0) (c .before .before .before .before .before .before .before .before .before .before .before .loop-test .taken) (r .result) (r .ensures) (c .before .match2 .keys2) _ _
 
 -- the next power stands in the arrays, and its rows are not added yet
 next-rows : (d : tie.After-known-told2 Inv-loop μ-loop)
-    → let args = d .before .before .before .before .before .before .before .before .before .before .before .before .before .before .before .before .before .before .before .before .before .before .before .before .before .before .before .before .before .before .args in
-    let loop = d .before .before .before .before .before .before .before .before .before .loop in
-    let r = d .before .before .before .before .before .raise in
-    Joining (args .v) (args .largest) (args .sp .now) (args .sc .now) (args .fp .now) (args .fc .now) (loop .gp) (loop .gc) (r .last .0) (r .last .1 .0) (d .before .raised .given .0 .0) (loop .all) (loop .k + 1)
+    → let args = d .before .before .before .before .before .before .before .before .before .before .before .before .before .before .before .before .before .before .before .before .before .before .before .before .before .before .before .before .before .before .before .before .before .before .before .before .before .before .before .before .args in
+    let loop = d .before .before .before .before .before .before .before .before .before .before .before .before .before .loop in
+    let r = d .before .before .before .before .before .before .before .raise in
+    Joining (args .v) (args .largest) (args .sp .now) (args .sc .now) (args .fp .now) (args .fc .now) (wordsAt (loop .gr)) (loop .gc) (r .last .0) (r .last .1 .0) (d .before .raised .given .0 .0) (loop .all) (loop .k + 1)
 next-rows d =
-    let r = d .before .before .before .before .before .raise in
-    raises (d .before .before .before .before .before .before .before .before .before .loop .inv) (d .before .before .before .before .before .before .before .before .loop-test .taken) (r .result) (r .ensures) (d .before .raised .given .1) (r .kept .0) (r .kept .1 .0)
+    let r = d .before .before .before .before .before .before .before .raise in
+    raises (d .before .before .before .before .before .before .before .before .before .before .before .before .before .loop .inv .0) (d .before .before .before .before .before .before .before .before .before .before .before .before .loop-test .taken) (r .result) (r .ensures) (d .before .raised .given .1) (r .kept .0) (r .kept .1 .0)
 
 add-k : tie.Need-add-k Inv-loop μ-loop
-add-k c = record { fits = omega (arith, c .before .before .before .before .before .before .before .before .loop-test .taken, c .before .before .before .before .before .before .before .before .before .before .before .before .before .before .before .before .before .before .before .before .before .before .before .before .before .before .before .before .before .before .fits .largest) }
+add-k c = record { fits = omega (arith, c .before .before .before .before .before .before .before .before .before .before .before .before .loop-test .taken, c .before .before .before .before .before .before .before .before .before .before .before .before .before .before .before .before .before .before .before .before .before .before .before .before .before .before .before .before .before .before .before .before .before .before .before .before .before .before .before .before .fits .largest) }
 
 sub-add-rows-3 : tie.Need-sub-add-rows-3 Inv-loop μ-loop
 sub-add-rows-3 c = search needs
@@ -135,14 +164,32 @@ part-add-rows-start-4 c = search needs
 part-add-rows-end-4 : tie.Need-part-add-rows-end-4 Inv-loop μ-loop
 part-add-rows-end-4 c = let f = next-rows (c .before .before .before) .raised in omega (arith, front-few f, f .coefficients-room)
 
-slice-aggregate-add-rows-3 : tie.Need-slice-aggregate-add-rows-3 Inv-loop μ-loop
-slice-aggregate-add-rows-3 c = search needs
+slice-aggregate-add-rows-6 : tie.Need-slice-aggregate-add-rows-6 Inv-loop μ-loop
+slice-aggregate-add-rows-6 c = search needs
 
-slice-aggregate-add-rows-4 : tie.Need-slice-aggregate-add-rows-4 Inv-loop μ-loop
-slice-aggregate-add-rows-4 c = search needs
+slice-aggregate-add-rows-7 : tie.Need-slice-aggregate-add-rows-7 Inv-loop μ-loop
+slice-aggregate-add-rows-7 c = search needs
+
+slice-aggregate-add-rows-8 : tie.Need-slice-aggregate-add-rows-8 Inv-loop μ-loop
+slice-aggregate-add-rows-8 c = search needs
+
+slice-aggregate-add-rows-9 : tie.Need-slice-aggregate-add-rows-9 Inv-loop μ-loop
+slice-aggregate-add-rows-9 c = search needs
+
+slice-aggregate-add-rows-10 : tie.Need-slice-aggregate-add-rows-10 Inv-loop μ-loop
+slice-aggregate-add-rows-10 c = search needs
 
 add-rows-requires-2 : tie.Need-add-rows-requires-2 Inv-loop μ-loop
-add-rows-requires-2 c κs = can-add (next-rows (c .before .before .before .before .before .before)) (sub-zero _)
+add-rows-requires-2 c κs =
+    let d = c .before .before .before .before .before .before .before .before .before in
+    let r = d .before .before .before .before .before .before .before .raise in
+    let spare = d .before .before .before .before .before .before .before .before .before .before .before .before .before .loop .inv .1 in (
+      can-add (next-rows d) (sub-zero _),
+      (
+        record { words = omega (arith, spare .part-ranks, r .kept .1 .1 .1 .1 .1 .0); coefficients = omega (arith, spare .part-coefficients, r .kept .1 .1 .1 .1 .1 .1 .0) },
+        omega (arith, spare .power-ranks),
+      ),
+    )
 
 enum-known-added : tie.Need-enum-known-added Inv-loop μ-loop
 enum-known-added c = search needs
@@ -152,16 +199,27 @@ enum-told-3 c = search needs
 
 returns-3 : tie.Need-returns-3 Inv-loop μ-loop
 returns-3 c =
-    let r = c .before .before .before .before .add-rows2 in
-    rows-stop (next-rows (c .before .before .before .before .before .before .before .before .before .before .before)) (sub-zero _) (r .result) (r .ensures) (c .before .match3 .keys2) _ _
+    let r = c .before .before .before .before .before .before .before .add-rows2 in
+    rows-stop (next-rows (c .before .before .before .before .before .before .before .before .before .before .before .before .before .before .before .before .before)) (sub-zero _) (r .result) (r .ensures) (c .before .match3 .keys2) _ _
 
 loop-less : tie.Need-loop-less Inv-loop μ-loop
 loop-less c = search needs
 
 loop-again : tie.Need-loop-again Inv-loop μ-loop
 loop-again c =
-    let r = c .before .before .before .before .before .add-rows2 in
-    joins (next-rows (c .before .before .before .before .before .before .before .before .before .before .before .before)) (sub-zero _) (r .result) (r .ensures) (c .before .added .given .1) (r .kept .1 .1 .1 .1 .1 .1 .0) (r .kept .1 .1 .1 .1 .1 .1 .1 .0)
+    let r = c .before .before .before .before .before .before .before .before .add-rows2 in
+    let raised = c .before .before .before .before .before .before .before .before .before .before .before .before .before .before .before .before .before .before .before .before .before .before .before .before .before .raise in
+    let loop = c .before .before .before .before .before .before .before .before .before .before .before .before .before .before .before .before .before .before .before .before .before .before .before .before .before .before .before .before .before .before .before .loop in
+    let spare = loop .inv .1 in
+    let same = length-map (r .last .1 .1 .1 .1 .1 .1 .0) wordAt ∙ r .kept .1 .1 .1 .1 .1 .1 .0 ∙ sym (length-map (loop .gr) wordAt) in (
+      joins (next-rows (c .before .before .before .before .before .before .before .before .before .before .before .before .before .before .before .before .before .before)) (sub-zero _) (r .result) (r .ensures) (c .before .added .given .1) same (r .kept .1 .1 .1 .1 .1 .1 .1 .0),
+      record {
+        running = omega (arith, spare .running, r .kept .1 .1 .1 .1 .1 .1 .0);
+        part-ranks = omega (arith, spare .part-ranks, raised .kept .1 .1 .1 .1 .1 .0, r .kept .1 .1 .1 .1 .1 .1 .1 .1 .1 .0);
+        part-coefficients = omega (arith, spare .part-coefficients, raised .kept .1 .1 .1 .1 .1 .1 .0, r .kept .1 .1 .1 .1 .1 .1 .1 .1 .1 .1 .0);
+        power-ranks = omega (arith, spare .power-ranks, r .kept .1 .1 .1 .1 .1 .1 .1 .1 .1 .1 .1 .0);
+      },
+    )
 
 sub-finish : tie.Need-sub-finish Inv-loop μ-loop
 sub-finish c = search needs
@@ -170,7 +228,7 @@ part-finish-start : tie.Need-part-finish-start Inv-loop μ-loop
 part-finish-start c = search needs
 
 part-finish-end : tie.Need-part-finish-end Inv-loop μ-loop
-part-finish-end c = search needs
+part-finish-end c = let loop = c .before .before .loop in omega (arith, placed-inside (loop .inv .0 .so-far) .0, length-map (loop .gr) wordAt)
 
 sub-finish-2 : tie.Need-sub-finish-2 Inv-loop μ-loop
 sub-finish-2 c = search needs
@@ -179,12 +237,12 @@ part-finish-start-2 : tie.Need-part-finish-start-2 Inv-loop μ-loop
 part-finish-start-2 c = search needs
 
 part-finish-end-2 : tie.Need-part-finish-end-2 Inv-loop μ-loop
-part-finish-end-2 c = search needs
+part-finish-end-2 c = placed-inside (c .before .before .before .before .loop .inv .0 .so-far) .1
 
 finish-requires : tie.Need-finish-requires Inv-loop μ-loop
 finish-requires c κs =
     let loop = c .before .before .before .before .before .before .before .loop in
-    (rw (sub-zero (loop .all)) (placed-held (loop .inv .so-far)), c .before .before .before .before .before .before .before .before .before .before .before .before .before .before .before .before .before .before .before .before .before .before .before .before .before .before .before .before .pre .1 .1 .1)
+    (rw (sub-zero (loop .all), map-take wordAt (loop .all) (loop .gr)) (placed-held (loop .inv .0 .so-far)), c .before .before .before .before .before .before .before .before .before .before .before .before .before .before .before .before .before .before .before .before .before .before .before .before .before .before .before .before .before .before .before .before .before .before .pre .1 .1 .1)
 
 same-length : tie.Need-same-length Inv-loop μ-loop
 same-length c = search needs
@@ -195,8 +253,9 @@ same-length-2 c = search needs
 returns-4 : tie.Need-returns-4 Inv-loop μ-loop
 returns-4 c =
     let loop = c .before .before .before .before .before .before .before .before .before .before .before .loop in
-    let args = c .before .before .before .before .before .before .before .before .before .before .before .before .before .before .before .before .before .before .before .before .before .before .before .before .before .before .before .before .before .before .before .before .args in
-    (rw (sub-zero (loop .all)) at (c .before .before .before .finish .ensures)) ∙ ap (λ x. formedInto x (args .patterns .now) (args .coefficients .now)) (ended (loop .inv) (c .before .before .before .before .before .before .before .before .before .before .loop-test .left))
+    let args = c .before .before .before .before .before .before .before .before .before .before .before .before .before .before .before .before .before .before .before .before .before .before .before .before .before .before .before .before .before .before .before .before .before .before .before .before .before .before .args in
+    (rw (sub-zero (loop .all), map-take wordAt (loop .all) (loop .gr)) at (c .before .before .before .finish .ensures))
+    ∙ ap (λ x. formedInto x (args .patterns .now) (args .coefficients .now)) (ended (loop .inv .0) (c .before .before .before .before .before .before .before .before .before .before .loop-test .left))
 
 pub put-spec : {M : Type 1} → statement M
 put-spec =
@@ -215,6 +274,9 @@ put-spec =
     part-add-rows-end-2
     slice-aggregate-add-rows
     slice-aggregate-add-rows-2
+    slice-aggregate-add-rows-3
+    slice-aggregate-add-rows-4
+    slice-aggregate-add-rows-5
     add-rows-requires
     enum-known-first
     enum-told
@@ -222,6 +284,8 @@ put-spec =
     loop-holds
     slice-aggregate-raise
     slice-aggregate-raise-2
+    slice-aggregate-raise-3
+    slice-aggregate-raise-4
     raise-requires
     enum-known-raised
     enum-told-2
@@ -233,8 +297,11 @@ put-spec =
     sub-add-rows-4
     part-add-rows-start-4
     part-add-rows-end-4
-    slice-aggregate-add-rows-3
-    slice-aggregate-add-rows-4
+    slice-aggregate-add-rows-6
+    slice-aggregate-add-rows-7
+    slice-aggregate-add-rows-8
+    slice-aggregate-add-rows-9
+    slice-aggregate-add-rows-10
     add-rows-requires-2
     enum-known-added
     enum-told-3

@@ -1,11 +1,9 @@
--- `raise` meets its contract: the product is formed in arrays of its own, and copied.
+-- `raise` meets its contract: the product is formed in the areas that are lent for it, and copied.
 use mathlib.Core.Path.{_≡_}
 use Prim.Native.Nat.{_≤_}
 use native.Mathlib.Omega.{arith}
 use native.Mathlib.Nat.{sub-zero}
-use borrow.Author.Needs.{needs}
-use lib.IntN.{pos}
-use lib.ListN.{replicate}
+use lib.ListN.{length}
 use Rattle.algebra.specs.Limits.{mostTerms}
 use Rattle.algebra.specs.Arithmetic.{_⊗_, productSpread}
 use Rattle.algebra.specs.Word.{terms}
@@ -13,6 +11,7 @@ use Rattle.algebra.specs.Held.{firstTerms}
 use Rattle.algebra.proofs.Sums.Results.{product-length}
 use Rattle.sums.specs.Formed.{formedOf, within, productOf, formedInto}
 use Rattle.pair.proofs.Copying.{copy-stops, copy-few, copy-formed}
+use borrow.Author.Needs.{needs}
 use Rattle.pair.proofs.putting.raise.Statement.{statement}
 use Rattle.pair.proofs.putting.raise.Tie as tie
 
@@ -34,28 +33,27 @@ part-product-start-2 c = search needs
 part-product-end-2 : tie.Need-part-product-end-2
 part-product-end-2 c = search needs
 
-slice-aggregate-product : tie.Need-slice-aggregate-product
-slice-aggregate-product c = search needs
-
-slice-aggregate-product-2 : tie.Need-slice-aggregate-product-2
-slice-aggregate-product-2 c = search needs
-
 product-requires : tie.Need-product-requires
 product-requires c κs =
-    let pre = c .before .before .before .before .before .before .before .before .pre in
-    (rw (sub-zero (c .before .before .before .before .before .before .before .before .args .n)) (pre .1 .0), record { words = search needs; coefficients = search needs })
+    let entry = c .before .before .before .before .before .before .before .before .before in
+    (rw (sub-zero (entry .args .n)) (entry .pre .1 .0), entry .pre .1 .1 .1)
 
 -- what `product` answers, and how many terms that are
 formed-own : (d : tie.After-product)
-    → let args = d .before .before .before .before .before .before .before .before .before .args in
+    → let args = d .before .before .before .before .before .before .before .before .before .before .args in
     let s = firstTerms (args .n) (args .wp .now) (args .wc .now) in
     let t = terms (args .sp .now) (args .sc .now) in
-    (formedOf (d .product .result), d .product .last .1 .1 .1 .1 .0, d .product .last .1 .1 .1 .1 .1 .0) ≡ formedInto (within (productSpread s t) (s ⊗ t)) (replicate mostTerms 0) (replicate mostTerms (pos 0))
+    (formedOf (d .product .result), d .product .last .1 .1 .1 .1 .0, d .product .last .1 .1 .1 .1 .1 .0) ≡ formedInto (within (productSpread s t) (s ⊗ t)) (args .patterns .now) (args .coefficients .now)
 unfolding productOf
-formed-own d = rw (sub-zero (d .before .before .before .before .before .before .before .before .before .args .n)) at (d .product .ensures)
+formed-own d = rw (sub-zero (d .before .before .before .before .before .before .before .before .before .before .args .n)) at (d .product .ensures)
 
 copied-few : (d : tie.After-known-told) → d .before .formed .given .0 .0 ≤ mostTerms
-copied-few d = copy-few _ _ _ _ (d .before .before .before .before .before .product .result) (formed-own (d .before .before .before .before .before)) (d .before .formed .given .1) (product-length _ _)
+copied-few d = copy-few _ _ _ _ (d .before .before .before .before .before .before .product .result) (formed-own (d .before .before .before .before .before .before)) (d .before .formed .given .1) (product-length _ _)
+
+copy-room : (d : tie.After-product) → (mostTerms ≤ length (d .product .last .1 .1 .1 .1 .0)) × (mostTerms ≤ length (d .product .last .1 .1 .1 .1 .1 .0))
+copy-room d =
+    let room = d .before .before .before .before .before .before .before .before .before .before .pre .1 .1 .1 in
+    (omega (arith, room .words, d .product .kept .1 .1 .1 .1 .0), omega (arith, room .coefficients, d .product .kept .1 .1 .1 .1 .1 .0))
 
 enum-known-formed : tie.Need-enum-known-formed
 enum-known-formed c = search needs
@@ -69,31 +67,37 @@ same-length c = search needs
 same-length-2 : tie.Need-same-length-2
 same-length-2 c = search needs
 
-returns : tie.Need-returns
-unfolding productOf
-returns c = copy-stops _ _ _ _ (c .before .before .before .before .product .result) (formed-own (c .before .before .before .before)) (c .before .match .keys2) _ _
-
-slice-aggregate-copy-words : tie.Need-slice-aggregate-copy-words
-slice-aggregate-copy-words c = search needs
-
-copy-words-requires : tie.Need-copy-words-requires
-copy-words-requires c κs = let few = copied-few (c .before .before) in (omega (arith, few, c .before .before .before .before .before .before .before .before .before .before .before .before .before .before .before .before .pre .1 .1 .words), omega (arith, few))
-
-slice-aggregate-copy-coefficients : tie.Need-slice-aggregate-copy-coefficients
-slice-aggregate-copy-coefficients c = search needs
-
-copy-coefficients-requires : tie.Need-copy-coefficients-requires
-copy-coefficients-requires c κs = let few = copied-few (c .before .before .before .before .before .before .before) in (omega (arith, few, c .before .before .before .before .before .before .before .before .before .before .before .before .before .before .before .before .before .before .before .before .before .pre .1 .1 .coefficients), omega (arith, few))
-
 same-length-3 : tie.Need-same-length-3
 same-length-3 c = search needs
 
 same-length-4 : tie.Need-same-length-4
 same-length-4 c = search needs
 
+returns : tie.Need-returns
+unfolding productOf
+returns c = let d = c .before .before .before .before .before in copy-stops _ _ _ _ (d .product .result) (formed-own d) (c .before .match .keys2) _ _
+
+copy-words-requires : tie.Need-copy-words-requires
+copy-words-requires c κs = let few = copied-few (c .before .before) in (omega (arith, few, c .before .before .before .before .before .before .before .before .before .before .before .before .before .before .before .before .before .before .pre .1 .1 .0 .words), omega (arith, few, copy-room (c .before .before .before .before .before .before .before .before) .0))
+
+copy-coefficients-requires : tie.Need-copy-coefficients-requires
+copy-coefficients-requires c κs = let few = copied-few (c .before .before .before .before .before .before .before) in (omega (arith, few, c .before .before .before .before .before .before .before .before .before .before .before .before .before .before .before .before .before .before .before .before .before .before .before .pre .1 .1 .0 .coefficients), omega (arith, few, copy-room (c .before .before .before .before .before .before .before .before .before .before .before .before .before) .1))
+
+same-length-5 : tie.Need-same-length-5
+same-length-5 c = search needs
+
+same-length-6 : tie.Need-same-length-6
+same-length-6 c = search needs
+
+same-length-7 : tie.Need-same-length-7
+same-length-7 c = search needs
+
+same-length-8 : tie.Need-same-length-8
+same-length-8 c = search needs
+
 returns-2 : tie.Need-returns-2
 unfolding productOf
-returns-2 c = copy-formed _ _ _ _ (c .before .before .before .before .before .before .before .before .before .before .before .before .before .before .product .result) (formed-own (c .before .before .before .before .before .before .before .before .before .before .before .before .before .before)) (c .before .before .before .before .before .before .before .before .before .before .formed .given .1) _ _ (c .before .before .before .before .before .before .copy-words .ensures) (c .before .copy-coefficients .ensures)
+returns-2 c = let d = c .before .before .before .before .before .before .before .before .before .before .before .before .before .before .before in copy-formed _ _ _ _ (d .product .result) (formed-own d) (c .before .before .before .before .before .before .before .before .before .before .formed .given .1) _ _ (c .before .before .before .before .before .before .copy-words .ensures) (c .before .copy-coefficients .ensures)
 
 pub raise-spec : {M : Type 1} → statement M
 raise-spec =
@@ -105,18 +109,18 @@ raise-spec =
     sub-product-2
     part-product-start-2
     part-product-end-2
-    slice-aggregate-product
-    slice-aggregate-product-2
     product-requires
     enum-known-formed
     enum-told
     same-length
     same-length-2
-    returns
-    slice-aggregate-copy-words
-    copy-words-requires
-    slice-aggregate-copy-coefficients
-    copy-coefficients-requires
     same-length-3
     same-length-4
+    returns
+    copy-words-requires
+    copy-coefficients-requires
+    same-length-5
+    same-length-6
+    same-length-7
+    same-length-8
     returns-2)

@@ -6,10 +6,12 @@ use borrow.Author.Needs.{needs}
 use lib.ListN.{length}
 use Rattle.algebra.specs.Arithmetic.{pairs}
 use Rattle.algebra.specs.Word.{terms}
+use Rattle.algebra.specs.Rank.{wordsAt}
 use Rattle.algebra.specs.Held.{firstTerms}
 use Rattle.sums.specs.Formed.{formedOf, withRow}
 use Rattle.sums.specs.Rows.{Added}
-use Rattle.sums.proofs.Clearing.{numberOf, number-inside, cleared-into}
+use Rattle.sums.proofs.Pairing.{answer-holdable}
+use Rattle.sums.proofs.Clearing.{numberOf, number-inside, ranks-stand, cleared-into}
 use Rattle.sums.proofs.rows.add_product.Statement.{statement}
 use Rattle.sums.proofs.rows.add_product.Tie as tie
 
@@ -23,13 +25,13 @@ known d =
 added : (d : tie.At-match-came)
     → let call = d .before .before .before .before in
     let args = call .before .before .before .before .before .before .args in
-    Added (withRow (pairs (terms (args .sp .now) (args .sc .now)) (terms (args .tp .now) (args .tc .now))) (firstTerms (args .n) (args .patterns .now) (args .coefficients .now)))
-    (formedOf (d .match .formed)) (call .add-pairs .last .0) (call .add-pairs .last .1 .0)
+    Added (withRow (pairs (terms (wordsAt (args .sr .now)) (args .sc .now)) (terms (wordsAt (args .tr .now)) (args .tc .now))) (firstTerms (args .n) (wordsAt (args .ranks .now)) (args .coefficients .now)))
+    (formedOf (d .match .formed)) (wordsAt (call .add-pairs .last .0)) (call .add-pairs .last .1 .0)
 added d = rw (known d .0) (d .before .before .before .before .add-pairs .ensures)
 
 inside : (d : tie.At-match-came)
     → let call = d .before .before .before .before in (d .match .all ≤ length (call .add-pairs .last .0)) × (d .match .all ≤ length (call .add-pairs .last .1 .0))
-inside d = number-inside _ (added d) (known d .1)
+inside d = number-inside _ (d .before .before .before .before .add-pairs .last .0) (added d) (known d .1)
 
 add-pairs-requires : tie.Need-add-pairs-requires
 add-pairs-requires c κs = search needs
@@ -87,8 +89,9 @@ returns c =
     let d = c .before .before .before .before .before .before .before .before in
     let call = d .before .before .before .before in
     let args = call .before .before .before .before .before .before .args in
-    cleared-into (args .patterns .now) (args .coefficients .now) (call .add-pairs .last .0) (call .add-pairs .last .1 .0) (d .match .all) (known d .1) (call .add-pairs .kept .0) (call .add-pairs .kept .1 .0)
+    cleared-into (args .ranks .now) (args .coefficients .now) (call .add-pairs .last .0) (call .add-pairs .last .1 .0) (d .match .all) (known d .1) (call .add-pairs .kept .0) (call .add-pairs .kept .1 .0)
     (c .before .before .before .before .before .clear-words .ensures) (c .before .clear-coefficients .ensures) _ (added d)
+    (ranks-stand (call .add-pairs .last .0) (added d) (λ i. d .before .before .slice-known2 .given i .fits) (answer-holdable (call .before .before .before .before .before .before .pre)))
 
 pub add-product-spec : {M : Type 1} → statement M
 add-product-spec =

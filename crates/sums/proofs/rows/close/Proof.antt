@@ -10,11 +10,11 @@ use Rattle.sums.proofs.rows.close.Statement.{statement}
 use Rattle.sums.proofs.rows.close.Tie as tie
 
 abbrev Inv-loop : tie.InvT-loop
-Inv-loop patterns₀ coefficients₀ from to end i₀ k₀ patterns coefficients i k =
-    Closing patterns₀ from to end patterns i k × Closing coefficients₀ from to end coefficients i k
+Inv-loop ranks₀ coefficients₀ from to end i₀ k₀ ranks coefficients i k =
+    Closing ranks₀ from to end ranks i k × Closing coefficients₀ from to end coefficients i k
 
 abbrev μ-loop : tie.MeasureT-loop
-μ-loop patterns₀ coefficients₀ from to end i₀ k₀ patterns coefficients i k = end - k
+μ-loop ranks₀ coefficients₀ from to end i₀ k₀ ranks coefficients i k = end - k
 
 loop-holds : tie.Need-loop-holds Inv-loop μ-loop
 loop-holds c = let pre = c .pre in (start _ (pre .0) (pre .1 .0) (pre .1 .1 .0), start _ (pre .0) (pre .1 .0) (pre .1 .1 .1))
@@ -25,17 +25,17 @@ mul-c c = search needs
 slice-copy-out-c : tie.Need-slice-copy-out-c Inv-loop μ-loop
 slice-copy-out-c c = search needs
 
-mul-patterns : tie.Need-mul-patterns Inv-loop μ-loop
-mul-patterns c = search needs
+mul-ranks : tie.Need-mul-ranks Inv-loop μ-loop
+mul-ranks c = search needs
 
-slice-read-patterns : tie.Need-slice-read-patterns Inv-loop μ-loop
-slice-read-patterns c = search needs
+slice-read-ranks : tie.Need-slice-read-ranks Inv-loop μ-loop
+slice-read-ranks c = search needs
 
-mul-patterns-2 : tie.Need-mul-patterns-2 Inv-loop μ-loop
-mul-patterns-2 c = search needs
+mul-ranks-2 : tie.Need-mul-ranks-2 Inv-loop μ-loop
+mul-ranks-2 c = search needs
 
-slice-write-patterns : tie.Need-slice-write-patterns Inv-loop μ-loop
-slice-write-patterns c = search needs
+slice-write-ranks : tie.Need-slice-write-ranks Inv-loop μ-loop
+slice-write-ranks c = search needs
 
 mul-c-2 : tie.Need-mul-c-2 Inv-loop μ-loop
 mul-c-2 c = search needs
@@ -79,10 +79,10 @@ close-spec =
     loop-holds
     mul-c
     slice-copy-out-c
-    mul-patterns
-    slice-read-patterns
-    mul-patterns-2
-    slice-write-patterns
+    mul-ranks
+    slice-read-ranks
+    mul-ranks-2
+    slice-write-ranks
     mul-c-2
     slice-set-from-c
     add-i

@@ -1,6 +1,6 @@
--- `merge` meets its contract: the loop keeps `Moving`.
+-- `merge` meets its contract: the loop keeps `Ranking`.
 use mathlib.Core.Path.{_≡_, sym, _∙_, ap, ap₂, subst}
-use Prim.Native.Nat.{_+_, _-_}
+use Prim.Native.Nat.{_+_, _-_, _^_, _<_}
 use native.Mathlib.Omega.{arith}
 use borrow.Author.Needs.{needs}
 use lib.IntN.{pos, _+ℤ_, _*ℤ_}
@@ -10,15 +10,16 @@ use mir.Val.{SFits, ofZ, toZ}
 use mir.ValLaws.{toZ-ofZ}
 use Rattle.algebra.specs.Standing.{standing}
 use Rattle.sums.proofs.Standing.{there-is}
-use Rattle.sums.proofs.Moving.{Moving, start, left-valid, ended, factor-valid, factor-low, value-fits, next-valid, new, sum-fits, known, passed}
+use Rattle.sums.proofs.Moving.{left-valid, value-fits}
+use Rattle.sums.proofs.Ranking.{Ranking, start, ended, next-fits, next-valid, new, sum-fits, known, passed}
 use Rattle.sums.proofs.rows.merge.Statement.{statement}
 use Rattle.sums.proofs.rows.merge.Tie as tie
 
 abbrev Inv-loop : tie.InvT-loop
-Inv-loop patterns₀ coefficients₀ n pattern c tp tc i₀ j₀ k₀ patterns coefficients i j k = Moving patterns₀ coefficients₀ n (pattern .0) (toZ w64 c) tp tc patterns coefficients i j k
+Inv-loop ranks₀ coefficients₀ n rank c tr tc i₀ j₀ k₀ ranks coefficients i j k = Ranking ranks₀ coefficients₀ n rank (toZ w64 c) tr tc ranks coefficients i j k
 
 abbrev μ-loop : tie.MeasureT-loop
-μ-loop patterns₀ coefficients₀ n pattern c tp tc i₀ j₀ k₀ patterns coefficients i j k = i + j
+μ-loop ranks₀ coefficients₀ n rank c tr tc i₀ j₀ k₀ ranks coefficients i j k = i + j
 
 add-k : tie.Need-add-k Inv-loop μ-loop
 add-k c = search needs
@@ -31,26 +32,30 @@ loop-holds c =
 sub-k : tie.Need-sub-k Inv-loop μ-loop
 sub-k c = search needs
 
-sub-t17 : tie.Need-sub-t17 Inv-loop μ-loop
-sub-t17 c = search needs
+sub-next : tie.Need-sub-next Inv-loop μ-loop
+sub-next c = search needs
 
-mul-t18 : tie.Need-mul-t18 Inv-loop μ-loop
-mul-t18 c = search needs
+mul-next : tie.Need-mul-next Inv-loop μ-loop
+mul-next c = search needs
 
-shared-slice-read-t20 : tie.Need-shared-slice-read-t20 Inv-loop μ-loop
-shared-slice-read-t20 c = search needs
+shared-slice-read-next : tie.Need-shared-slice-read-next Inv-loop μ-loop
+shared-slice-read-next c = search needs
 
-product-requires : tie.Need-product-requires Inv-loop μ-loop
-product-requires c κs =
-    let loop = c .before .before .loop in
-    let more = c .before .loop-test .taken in
-    (loop .inv .can .valid, (factor-valid (loop .inv) more, factor-low (loop .inv) more))
+-- the two ranks that are added are numbers of 64 bits
+rank-small : (d : tie.After-shared-slice-known2 Inv-loop μ-loop) → d .before .before .before .before .before .args .rank < 2 ^ 64
+rank-small d = d .before .before .before .before .before .fits .rank .fits
+
+factor-small : (d : tie.After-shared-slice-known2 Inv-loop μ-loop) → getD (d .before .before .before .before .before .args .tr .now) (d .before .before .loop .j - 1) 0 < 2 ^ 64
+factor-small d = d .shared-slice-known2 .given _ .fits
+
+add-next : tie.Need-add-next Inv-loop μ-loop
+add-next c = record { fits = next-fits (c .before .before .loop .inv) (c .before .loop-test .taken) (rank-small c) (factor-small c) }
 
 last-stands-requires : tie.Need-last-stands-requires Inv-loop μ-loop
 last-stands-requires c κs =
-    let d = c .before .before .before in
-    let loop = d .before .loop in
-    (search needs, (left-valid (loop .inv), next-valid (loop .inv) (d .loop-test .taken) (c .before .product .ensures)))
+    let at = c .before in
+    let loop = at .before .before .loop in
+    (search needs, (left-valid (loop .inv .words), next-valid (loop .inv) (at .before .loop-test .taken) (rank-small at) (factor-small at)))
 
 enum-told : tie.Need-enum-told Inv-loop μ-loop
 enum-told c = search needs
@@ -64,28 +69,26 @@ mul-d c = search needs
 shared-slice-copy-out-d : tie.Need-shared-slice-copy-out-d Inv-loop μ-loop
 shared-slice-copy-out-d c = search needs
 
-mul-patterns : tie.Need-mul-patterns Inv-loop μ-loop
-mul-patterns c = search needs
+mul-ranks : tie.Need-mul-ranks Inv-loop μ-loop
+mul-ranks c = search needs
 
-slice-write-patterns : tie.Need-slice-write-patterns Inv-loop μ-loop
-slice-write-patterns c = search needs
+slice-write-ranks : tie.Need-slice-write-ranks Inv-loop μ-loop
+slice-write-ranks c = search needs
 
 -- the factor's coefficient that was read, as the machine holds it
 read : (d : tie.After-d Inv-loop μ-loop)
-    → let at = d .before .before .before .before .before .before .before in
-    let value = getD (at .before .before .before .before .args .tc .now) (at .before .loop .j - 1) (pos 0) in
+    → let at = d .before .before .before .before .before in
+    let value = getD (at .before .before .before .before .before .args .tc .now) (at .before .before .loop .j - 1) (pos 0) in
     toZ w64 (ofZ w64 value) ≡ value
-read d =
-    let at = d .before .before .before .before .before .before .before in
-    toZ-ofZ w64 (getD (at .before .before .before .before .args .tc .now) (at .before .loop .j - 1) (pos 0)) (record { sfits = d .d .given })
+read d = toZ-ofZ w64 _ (record { sfits = d .d .given })
 
 mul-coefficients : tie.Need-mul-coefficients Inv-loop μ-loop
 mul-coefficients c =
-    let at = c .before .before .before .before .before .before .before in
-    rw (read c) (value-fits (at .before .loop .inv) (at .loop-test .taken))
+    let at = c .before .before .before .before .before in
+    rw (read c) (value-fits (at .before .before .loop .inv .words) (at .before .loop-test .taken))
 
-mul-t25 : tie.Need-mul-t25 Inv-loop μ-loop
-mul-t25 c = search needs
+mul-t24 : tie.Need-mul-t24 Inv-loop μ-loop
+mul-t24 c = search needs
 
 slice-set-from-coefficients : tie.Need-slice-set-from-coefficients Inv-loop μ-loop
 slice-set-from-coefficients c = search needs
@@ -96,9 +99,9 @@ loop-less c = search needs
 loop-again : tie.Need-loop-again Inv-loop μ-loop
 loop-again c =
     let call = c .before .before .before in
-    let at = call .before .before .before .before in
-    let factor = at .before .before .before .before .args .c in
-    new (at .before .loop .inv) (at .loop-test .taken) (call .before .before .product .ensures) (sym (call .last-stands .ensures) ∙ ap standing (c .before .enum-told .given .1))
+    let at = call .before .before in
+    let factor = at .before .before .before .before .before .args .c in
+    new (at .before .before .loop .inv) (at .before .loop-test .taken) (rank-small at) (factor-small at) (sym (call .last-stands .ensures) ∙ ap standing (c .before .enum-told .given .1))
     (toZ-ofZ w64 _ (mul-coefficients c) ∙ ap (λ z. toZ w64 (ofZ w64 factor) *ℤ z) (read c))
 
 enum-told-2 : tie.Need-enum-told-2 Inv-loop μ-loop
@@ -122,44 +125,43 @@ mul-e c = search needs
 slice-copy-out-e : tie.Need-slice-copy-out-e Inv-loop μ-loop
 slice-copy-out-e c = search needs
 
-mul-patterns-2 : tie.Need-mul-patterns-2 Inv-loop μ-loop
-mul-patterns-2 c = search needs
+mul-ranks-2 : tie.Need-mul-ranks-2 Inv-loop μ-loop
+mul-ranks-2 c = search needs
 
-slice-write-patterns-2 : tie.Need-slice-write-patterns-2 Inv-loop μ-loop
-slice-write-patterns-2 c = search needs
+slice-write-ranks-2 : tie.Need-slice-write-ranks-2 Inv-loop μ-loop
+slice-write-ranks-2 c = search needs
 
 -- the same, and the running sum's
 read-2 : (d : tie.After-e Inv-loop μ-loop)
-    → let at = d .before .before .before .before .before .before .before .before in
-    let value = getD (at .before .before .before .before .args .tc .now) (at .before .loop .j - 1) (pos 0) in
-    let other = getD (at .before .loop .coefficients) (at .before .loop .i - 1) (pos 0) in
+    → let at = d .before .before .before .before .before .before in
+    let value = getD (at .before .before .before .before .before .args .tc .now) (at .before .before .loop .j - 1) (pos 0) in
+    let other = getD (at .before .before .loop .coefficients) (at .before .before .loop .i - 1) (pos 0) in
     (toZ w64 (ofZ w64 value) ≡ value) × (toZ w64 (ofZ w64 other) ≡ other)
 read-2 d = (toZ-ofZ w64 _ (record { sfits = d .before .d2 .given }), toZ-ofZ w64 _ (record { sfits = d .e .given }))
 
 mul-coefficients-2 : tie.Need-mul-coefficients-2 Inv-loop μ-loop
 mul-coefficients-2 c =
-    let at = c .before .before .before .before .before .before .before .before in
-    rw (read-2 c .0) (value-fits (at .before .loop .inv) (at .loop-test .taken))
+    let at = c .before .before .before .before .before .before in
+    rw (read-2 c .0) (value-fits (at .before .before .loop .inv .words) (at .before .loop-test .taken))
 
 -- the two coefficients together, as the machine adds them
 both : (d : tie.After-e Inv-loop μ-loop)
-    → let at = d .before .before .before .before .before .before .before .before in
-    let factor = toZ w64 (ofZ w64 (at .before .before .before .before .args .c)) in
-    let value = getD (at .before .before .before .before .args .tc .now) (at .before .loop .j - 1) (pos 0) in
-    let other = getD (at .before .loop .coefficients) (at .before .loop .i - 1) (pos 0) in
+    → let at = d .before .before .before .before .before .before in
+    let factor = toZ w64 (ofZ w64 (at .before .before .before .before .before .args .c)) in
+    let value = getD (at .before .before .before .before .before .args .tc .now) (at .before .before .loop .j - 1) (pos 0) in
+    let other = getD (at .before .before .loop .coefficients) (at .before .before .loop .i - 1) (pos 0) in
     toZ w64 (ofZ w64 (factor *ℤ toZ w64 (ofZ w64 value))) +ℤ toZ w64 (ofZ w64 other) ≡ factor *ℤ value +ℤ other
 both d =
-    let factor = d .before .before .before .before .before .before .before .before .before .before .before .before .args .c in
+    let factor = d .before .before .before .before .before .before .before .before .before .before .before .args .c in
     ap₂ _+ℤ_ (toZ-ofZ w64 _ (mul-coefficients-2 d) ∙ ap (λ z. toZ w64 (ofZ w64 factor) *ℤ z) (read-2 d .0)) (read-2 d .1)
 
 add-coefficients : tie.Need-add-coefficients Inv-loop μ-loop
 add-coefficients c =
-    let call = c .before .before .before .before in
-    let at = call .before .before .before .before in
-    subst (SFits w64) (sym (both c)) (sum-fits (at .before .loop .inv) (at .loop-test .taken) (call .before .before .product .ensures) (sub-i (c .before .before)))
+    let at = c .before .before .before .before .before .before in
+    subst (SFits w64) (sym (both c)) (sum-fits (at .before .before .loop .inv) (at .before .loop-test .taken) (rank-small at) (factor-small at) (sub-i (c .before .before)))
 
-mul-t30 : tie.Need-mul-t30 Inv-loop μ-loop
-mul-t30 c = search needs
+mul-t29 : tie.Need-mul-t29 Inv-loop μ-loop
+mul-t29 c = search needs
 
 slice-set-from-coefficients-2 : tie.Need-slice-set-from-coefficients-2 Inv-loop μ-loop
 slice-set-from-coefficients-2 c = search needs
@@ -170,8 +172,8 @@ loop-less-2 c = search needs
 loop-again-2 : tie.Need-loop-again-2 Inv-loop μ-loop
 loop-again-2 c =
     let call = c .before .before .before .before in
-    let at = call .before .before .before .before in
-    known (at .before .loop .inv) (at .loop-test .taken) (call .before .before .product .ensures) (sub-i (c .before .before))
+    let at = call .before .before in
+    known (at .before .before .loop .inv) (at .before .loop-test .taken) (rank-small at) (factor-small at) (sub-i (c .before .before))
     (sym (call .last-stands .ensures) ∙ ap standing (c .before .before .enum-told2 .given .1)) (toZ-ofZ w64 _ (add-coefficients c) ∙ both c)
 
 enum-told-3 : tie.Need-enum-told-3 Inv-loop μ-loop
@@ -186,17 +188,17 @@ mul-e-2 c = search needs
 slice-copy-out-e-2 : tie.Need-slice-copy-out-e-2 Inv-loop μ-loop
 slice-copy-out-e-2 c = search needs
 
-mul-patterns-3 : tie.Need-mul-patterns-3 Inv-loop μ-loop
-mul-patterns-3 c = search needs
+mul-ranks-3 : tie.Need-mul-ranks-3 Inv-loop μ-loop
+mul-ranks-3 c = search needs
 
-slice-read-patterns : tie.Need-slice-read-patterns Inv-loop μ-loop
-slice-read-patterns c = search needs
+slice-read-ranks : tie.Need-slice-read-ranks Inv-loop μ-loop
+slice-read-ranks c = search needs
 
-mul-patterns-4 : tie.Need-mul-patterns-4 Inv-loop μ-loop
-mul-patterns-4 c = search needs
+mul-ranks-4 : tie.Need-mul-ranks-4 Inv-loop μ-loop
+mul-ranks-4 c = search needs
 
-slice-write-patterns-3 : tie.Need-slice-write-patterns-3 Inv-loop μ-loop
-slice-write-patterns-3 c = search needs
+slice-write-ranks-3 : tie.Need-slice-write-ranks-3 Inv-loop μ-loop
+slice-write-ranks-3 c = search needs
 
 mul-e-3 : tie.Need-mul-e-3 Inv-loop μ-loop
 mul-e-3 c = search needs
@@ -210,8 +212,8 @@ loop-less-3 c = omega (arith, sub-i-2 (c .before .before))
 loop-again-3 : tie.Need-loop-again-3 Inv-loop μ-loop
 loop-again-3 c =
     let call = c .before .before .before .before in
-    let at = call .before .before .before .before in
-    passed (at .before .loop .inv) (at .loop-test .taken) (call .before .before .product .ensures) (sub-i-2 (c .before .before))
+    let at = call .before .before in
+    passed (at .before .before .loop .inv) (at .before .loop-test .taken) (rank-small at) (factor-small at) (sub-i-2 (c .before .before))
     (sym (call .last-stands .ensures) ∙ ap standing (c .before .before .enum-told3 .given .1)) (toZ-ofZ w64 _ (record { sfits = c .before .e2 .given }))
 
 same-length : tie.Need-same-length Inv-loop μ-loop
@@ -234,19 +236,19 @@ merge-spec =
     add-k
     loop-holds
     sub-k
-    sub-t17
-    mul-t18
-    shared-slice-read-t20
-    product-requires
+    sub-next
+    mul-next
+    shared-slice-read-next
+    add-next
     last-stands-requires
     enum-told
     sub-j
     mul-d
     shared-slice-copy-out-d
-    mul-patterns
-    slice-write-patterns
+    mul-ranks
+    slice-write-ranks
     mul-coefficients
-    mul-t25
+    mul-t24
     slice-set-from-coefficients
     loop-less
     loop-again
@@ -257,11 +259,11 @@ merge-spec =
     shared-slice-copy-out-d-2
     mul-e
     slice-copy-out-e
-    mul-patterns-2
-    slice-write-patterns-2
+    mul-ranks-2
+    slice-write-ranks-2
     mul-coefficients-2
     add-coefficients
-    mul-t30
+    mul-t29
     slice-set-from-coefficients-2
     loop-less-2
     loop-again-2
@@ -269,10 +271,10 @@ merge-spec =
     sub-i-2
     mul-e-2
     slice-copy-out-e-2
-    mul-patterns-3
-    slice-read-patterns
-    mul-patterns-4
-    slice-write-patterns-3
+    mul-ranks-3
+    slice-read-ranks
+    mul-ranks-4
+    slice-write-ranks-3
     mul-e-3
     slice-set-from-e
     loop-less-3
