@@ -5,9 +5,11 @@ use Prim.Native.Nat.{ℕ, zero, suc, _+_, _*_, _^_, _≤_, _<_}
 use native.Mathlib.Omega.{arith}
 use native.Mathlib.Numerals.{add-one}
 use native.Mathlib.Nat.{le-trans, mul-le-mul-left, mul-le-mul-right}
-use lib.IntN.{ℤ, pos, natAbs, _+ℤ_, _*ℤ_}
+use lib.IntN.{ℤ, pos, negsuc, natAbs, _+ℤ_, _*ℤ_}
 use lib.ListN.{length, getD, take, set}
 use lib.Seq.{length-take-le, getD-take, take-all}
+use mir.Syntax.{w64}
+use mir.Val.{SFits, ofZ}
 use Rattle.algebra.specs.Limits.{largestWeight}
 use Rattle.algebra.proofs.Numbers.Absolute.{abs-add, abs-mul}
 use Rattle.answers.specs.Areas.{written}
@@ -121,3 +123,8 @@ module _ {x y : ℤ} {n : ℕ} {area₀ area : List ℤ} {left : ℤ} {k : ℕ} 
       ap₂ (λ (i : ℕ) (c : ℤ). set area i c) (sym at-end) target
       ∙ copies.ended area₀ (stepped x y (pos 0) cs) (n + 1) (set area k (getD (stepped x y (pos 0) cs) k (pos 0))) (k + 1) all (omega arith)
       ∙ ap (λ l. written l area₀) (take-all (n + 1) (stepped x y (pos 0) cs) (omega (arith, stepped-length x y (pos 0) cs, many)))
+
+-- a test `x == 1` compares bits
+pub one-bits : (z : ℤ) → SFits w64 z → ofZ w64 z ≡ 1 → z ≡ pos 1
+one-bits (pos n) f e = ap pos e
+one-bits (negsuc k) f e = absurd (omega (arith, f .sfits))

@@ -11,7 +11,7 @@ ghost use Rattle.sums.specs.Formed.{Formed.formed, powerOf, formedInto};
 ghost use Rattle.sums.specs.Binomial.{stepped, sizes, mixed};
 
 // The first n coefficients are those of a power of two terms, whose coefficients are x and y; then the first n + 1 are those of the next power.
-fn step(x: i64, y: i64, n: usize, coefficients: &mut [i64])
+fn multiply_step(x: i64, y: i64, n: usize, coefficients: &mut [i64])
     requires { ⌜ n < length (now coefficients) ⌝ }
     requires { ⌜ sizes (take n (now coefficients)) * (natAbs x + natAbs y) ≤ largestWeight ⌝ }
     ensures { λ r. ⌜ now (coefficients .exit) ≡ written (stepped x y (pos 0) (take n (now (coefficients .entry)))) (now (coefficients .entry)) ⌝ }
@@ -25,6 +25,38 @@ fn step(x: i64, y: i64, n: usize, coefficients: &mut [i64])
         k += 1;
     }
     coefficients[n] = left * y;
+}
+
+// The same where x and y are 1: nothing is multiplied.
+fn add_step(n: usize, coefficients: &mut [i64])
+    requires { ⌜ n < length (now coefficients) ⌝ }
+    requires { ⌜ sizes (take n (now coefficients)) * 2 ≤ largestWeight ⌝ }
+    ensures { λ r. ⌜ now (coefficients .exit) ≡ written (stepped (pos 1) (pos 1) (pos 0) (take n (now (coefficients .entry)))) (now (coefficients .entry)) ⌝ }
+{
+    let mut left: i64 = 0;
+    let mut k = 0;
+    while k < n {
+        let c = coefficients[k];
+        coefficients[k] = left + c;
+        left = c;
+        k += 1;
+    }
+    coefficients[n] = left;
+}
+
+// The next power, the quick way where there is one.
+fn step(x: i64, y: i64, n: usize, coefficients: &mut [i64])
+    requires { ⌜ n < length (now coefficients) ⌝ }
+    requires { ⌜ sizes (take n (now coefficients)) * (natAbs x + natAbs y) ≤ largestWeight ⌝ }
+    ensures { λ r. ⌜ now (coefficients .exit) ≡ written (stepped x y (pos 0) (take n (now (coefficients .entry)))) (now (coefficients .entry)) ⌝ }
+{
+    if x == 1 {
+        if y == 1 {
+            add_step(n, coefficients);
+            return;
+        }
+    }
+    multiply_step(x, y, n, coefficients);
 }
 
 // The words of the power e: p as often as it can be, and then q for p once more each time.

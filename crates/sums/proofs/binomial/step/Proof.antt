@@ -1,113 +1,55 @@
--- `step` meets its contract: the loop keeps `Stepping`.
-use mathlib.Core.Path.{_≡_, _∙_, ap₂}
-use Prim.Native.Nat.{_-_}
+-- `step` meets its contract, both ways.
+use mathlib.Core.Path.{_≡_, sym, _∙_, ap₂, subst}
+use Prim.Native.Nat.{_+_, _*_, _≤_}
 use native.Mathlib.Omega.{arith}
 use borrow.Author.Needs.{needs}
-use lib.IntN.{pos, _+ℤ_}
-use lib.ListN.{getD, take}
+use lib.IntN.{ℤ, pos, natAbs}
+use lib.ListN.{take}
 use mir.Syntax.{w64}
-use mir.Val.{ofZ, toZ}
 use mir.ValLaws.{toZ-ofZ}
+use Rattle.algebra.specs.Limits.{largestWeight}
 use Rattle.answers.specs.Areas.{written}
-use Rattle.answers.proofs.Signed.{fits-abs}
-use Rattle.sums.specs.Binomial.{stepped}
-use Rattle.sums.proofs.Stepping.{Stepping, start, left-light, both-light, again, ended}
+use Rattle.sums.specs.Binomial.{stepped, sizes}
+use Rattle.sums.proofs.Stepping.{one-bits}
 use Rattle.sums.proofs.binomial.step.Statement.{statement}
 use Rattle.sums.proofs.binomial.step.Tie as tie
 
-abbrev Inv-loop : tie.InvT-loop
-Inv-loop x y n coefficients₀ left₀ k₀ coefficients left k =
-    Stepping (toZ w64 x) (toZ w64 y) n coefficients₀ coefficients (toZ w64 left) k
+-- both are 1
+ones : (d : tie.After-add-step-arg) → let args = d .before .before .before .args in (args .x ≡ pos 1) × (args .y ≡ pos 1)
+ones d =
+    let start = d .before .before .before in
+    (one-bits (start .args .x) (start .fits .x) (d .before .before .if1 .taken), one-bits (start .args .y) (start .fits .y) (d .before .if2 .taken))
 
-abbrev μ-loop : tie.MeasureT-loop
-μ-loop x y n coefficients₀ left₀ k₀ coefficients left k =
-    n - k
+add-step-requires : tie.Need-add-step-requires
+add-step-requires c κs =
+    let start = c .before .before .before in
+    let size = sizes (take (start .args .n) (start .args .coefficients .now)) in
+    let light : size * 2 ≤ largestWeight = rw (ones c .0, ones c .1) at (start .pre .1) in
+    (start .pre .0, light)
 
-loop-holds : tie.Need-loop-holds Inv-loop μ-loop
-loop-holds c =
-    start _ _ _ _ (c .pre .0) (rw (toZ-ofZ w64 (c .args .x) (c .fits .x), toZ-ofZ w64 (c .args .y) (c .fits .y)) (c .pre .1))
-
-mul-c : tie.Need-mul-c Inv-loop μ-loop
-mul-c c = search needs
-
-slice-copy-out-c : tie.Need-slice-copy-out-c Inv-loop μ-loop
-slice-copy-out-c c = search needs
-
--- the number that was read, as the machine holds it
-read : (d : tie.After-c Inv-loop μ-loop)
-    → let loop = d .before .before .loop in
-    let value = getD (loop .coefficients) (loop .k) (pos 0) in
-    toZ w64 (ofZ w64 value) ≡ value
-read d =
-    let loop = d .before .before .loop in
-    toZ-ofZ w64 (getD (loop .coefficients) (loop .k) (pos 0)) (record { sfits = d .c .given })
-
-mul-coefficients : tie.Need-mul-coefficients Inv-loop μ-loop
-mul-coefficients c =
-    fits-abs _ (omega (arith, left-light (c .before .before .loop .inv)))
-
-mul-coefficients-2 : tie.Need-mul-coefficients-2 Inv-loop μ-loop
-mul-coefficients-2 c =
-    fits-abs _ (omega (arith, both-light (c .before .before .loop .inv) _ (read c) (c .before .loop-test .taken) .0))
-
-add-coefficients : tie.Need-add-coefficients Inv-loop μ-loop
-add-coefficients c =
-    fits-abs _ (rw (toZ-ofZ w64 _ (mul-coefficients c), toZ-ofZ w64 _ (mul-coefficients-2 c)) (omega (arith, both-light (c .before .before .loop .inv) _ (read c) (c .before .loop-test .taken) .1)))
-
-mul-t9 : tie.Need-mul-t9 Inv-loop μ-loop
-mul-t9 c = search needs
-
-slice-set-from-coefficients : tie.Need-slice-set-from-coefficients Inv-loop μ-loop
-slice-set-from-coefficients c = search needs
-
-add-k : tie.Need-add-k Inv-loop μ-loop
-add-k c = search needs
-
-loop-less : tie.Need-loop-less Inv-loop μ-loop
-loop-less c = search needs
-
-loop-again : tie.Need-loop-again Inv-loop μ-loop
-loop-again c =
-    again (c .before .before .loop .inv) (c .before .loop-test .taken) _ _ (read c) (toZ-ofZ w64 _ (add-coefficients c) ∙ ap₂ _+ℤ_ (toZ-ofZ w64 _ (mul-coefficients c)) (toZ-ofZ w64 _ (mul-coefficients-2 c)))
-
-mul-coefficients-3 : tie.Need-mul-coefficients-3 Inv-loop μ-loop
-mul-coefficients-3 c =
-    fits-abs _ (omega (arith, left-light (c .before .loop .inv)))
-
-mul-t16 : tie.Need-mul-t16 Inv-loop μ-loop
-mul-t16 c = search needs
-
-slice-set-from-coefficients-2 : tie.Need-slice-set-from-coefficients-2 Inv-loop μ-loop
-slice-set-from-coefficients-2 c = search needs
-
-same-length : tie.Need-same-length Inv-loop μ-loop
+same-length : tie.Need-same-length
 same-length c = search needs
 
-returns : tie.Need-returns Inv-loop μ-loop
+returns : tie.Need-returns
 returns c =
-    let entry = c .before .before in
-    ended (c .before .loop .inv) (c .loop-test .left) _ (toZ-ofZ w64 _ (mul-coefficients-3 c))
-    ∙ ap₂ (λ x y. written (stepped x y (pos 0) (take (entry .args .n) (entry .args .coefficients .now))) (entry .args .coefficients .now)) (toZ-ofZ w64 (entry .args .x) (entry .fits .x)) (toZ-ofZ w64 (entry .args .y) (entry .fits .y))
+    let d = c .before .before in
+    let start = d .before .before .before in
+    c .before .add-step .ensures
+    ∙ ap₂ (λ (x y : ℤ). written (stepped x y (pos 0) (take (start .args .n) (start .args .coefficients .now))) (start .args .coefficients .now)) (sym (ones d .0)) (sym (ones d .1))
+
+multiply-step-requires : tie.Need-multiply-step-requires
+multiply-step-requires c κs = search needs
+
+same-length-2 : tie.Need-same-length-2
+same-length-2 c = search needs
+
+returns-2 : tie.Need-returns-2
+returns-2 c =
+    let start = c .before .before .before .before in
+    c .before .multiply-step .ensures
+    ∙ ap₂ (λ (x y : ℤ). written (stepped x y (pos 0) (take (start .args .n) (start .args .coefficients .now))) (start .args .coefficients .now)) (toZ-ofZ w64 (start .args .x) (start .fits .x)) (toZ-ofZ w64 (start .args .y) (start .fits .y))
 
 pub step-spec : {M : Type 1} → statement M
 step-spec =
     tie.close
-    (tie.spec
-    Inv-loop
-    μ-loop
-    loop-holds
-    mul-c
-    slice-copy-out-c
-    mul-coefficients
-    mul-coefficients-2
-    add-coefficients
-    mul-t9
-    slice-set-from-coefficients
-    add-k
-    loop-less
-    loop-again
-    mul-coefficients-3
-    mul-t16
-    slice-set-from-coefficients-2
-    same-length
-    returns)
+    (tie.spec add-step-requires same-length returns multiply-step-requires same-length-2 returns-2)
