@@ -1,7 +1,7 @@
 -- What the loop of `put` keeps: the power k of the sum that is put stands in two arrays, and the rows of the powers up to k, gathered, in two others; no spread
 -- on the way was above 128.
 use mathlib.Core.Path.{_≡_, refl, sym, _∙_, ap, ap₂}
-use mathlib.Core.List.{List, [], _∷_, _++_, append-nil}
+use mathlib.Core.List.{List, [], _∷_, _++_}
 use Prim.Native.Nat.{ℕ, _+_, _*_, max, _≤_, _<_}
 use native.Mathlib.Omega.{arith}
 use native.Mathlib.Nat.{le-trans, le-max-left, le-max-right, max-le, mul-le-mul-right}
@@ -10,16 +10,18 @@ use lib.IntN.{ℤ, pos}
 use lib.ListN.{length, take}
 use types.Run.{OneOf}
 use denote.Enum.Declared.{tagOf}
+use Rattle.algebra.specs.Pattern.{emptyPattern}
 use Rattle.algebra.specs.Limits.{variables, largestDegree, mostTerms, largestWeight}
-use Rattle.algebra.specs.Sum.{Term, Sum, degreeOf, weight}
+use Rattle.algebra.specs.Sum.{Term, term, Sum, degreeOf, weight}
 use Rattle.algebra.specs.Collect.{gather, dropZeros, collect, spread}
-use Rattle.algebra.specs.Arithmetic.{integer, unit, _⊗_, productSpread, power, powerSpread}
+use Rattle.algebra.specs.Arithmetic.{integer, unit, row, pairs, _⊗_, productSpread, power, powerSpread}
 use Rattle.algebra.specs.Substitute.{pairRows, substitute, largestPower, pairSpread}
 use Rattle.algebra.specs.Word.{terms}
 use Rattle.algebra.specs.Held.{wordsOf, coefficientsOf, firstTerms}
-use Rattle.algebra.proofs.Patterns.Laws.{empty-degree}
+use Rattle.algebra.proofs.Numbers.Whole.{*ℤ-oner}
+use Rattle.algebra.proofs.Patterns.Laws.{times-comm, empty-times, empty-degree}
 use Rattle.algebra.proofs.Sums.Every.{Every, Long, UpTo, every-degree}
-use Rattle.algebra.proofs.Sums.Ordered.{parts}
+use Rattle.algebra.proofs.Sums.Ordered.{parts, gather-fixed}
 use Rattle.algebra.proofs.Sums.Occurs.{spread-gather}
 use Rattle.algebra.proofs.Sums.Ring.{power-suc}
 use Rattle.algebra.proofs.Sums.Results.{unit-integer, unit-ordered, power-degree, power-weight, power-ordered, gather-weight, append-weight}
@@ -27,21 +29,22 @@ use Rattle.algebra.proofs.Sums.Substitutes.{pair-weights}
 use Rattle.answers.specs.Areas.{written}
 use Rattle.sums.specs.Asked as Asked
 use Rattle.sums.specs.Formed.{Formed, formedOf, Formed.formed, Formed.over, within, withRow, productOf, formedInto}
-use Rattle.sums.specs.Rows.{Added}
+use Rattle.sums.specs.Rows.{Stands, Added}
 use Rattle.sums.specs.declared.Formed as declared
 use Rattle.sums.specs.declared.Formed.the-variants.{Terms}
 use Rattle.sums.proofs.Formed.{the-type}
 use Rattle.sums.proofs.Holding.{Holdable, holdable}
 use Rattle.sums.proofs.Forming.{within-yes}
 use Rattle.sums.proofs.Answering.{number-refused, added-given, given, refused, over-into}
-use Rattle.sums.proofs.Fronts.{Placed, placed-few, placed-is, placed-held, placed-written, Front, front-written, front-is, front-held}
+use Rattle.sums.proofs.Fronts.{Placed, placed-few, placed-is, placed-held, Front, front-written, front-is, front-held}
 use Rattle.sums.proofs.Gathering.{gathered, placed-finished}
-use Rattle.sums.proofs.Multiplying.{Factors, product-holdable, gather-rest, spread-rest, holdable-none}
+use Rattle.sums.proofs.Multiplying.{Factors, product-holdable, gather-rest, spread-rest}
 use Rattle.sums.proofs.Raising.{heavier, spread-rises}
 use Rattle.pair.specs.Asked.{Given, Allowed}
 use Rattle.pair.specs.Formed.{pairOf}
-use Rattle.pair.specs.Rows.{rowsAt, CanAddRows}
+use Rattle.pair.specs.Rows.{partAt, rowsAt, CanAddRows}
 use Rattle.pair.proofs.Bounds.{power-low, power-light, rows-within, step-judged, step-narrow}
+use Rattle.pair.proofs.TakingPart.{part-holdable}
 use Rattle.pair.proofs.ByPower.{rows-long, rowsTo, all-collected, all-spread, to-spread, to-weight, to-every}
 
 -- ---- A pair that is given, and allowed.
@@ -158,24 +161,33 @@ first-power S ws₀ cs₀ told words-room coefficients-room =
     front-written ws₀ cs₀ (ap (λ x. x .1) told ∙ ap (λ s. written (wordsOf s) ws₀) is) (ap (λ x. x .2) told ∙ ap (λ s. written (coefficientsOf s) cs₀) is) refl
     (record { long = p .long; strict = p .strict; low = unfold degreeOf in omega (arith, empty-degree variables); few = omega arith }) words-room coefficients-room
 
-pub start : {v largest : ℕ} {sp : List ℕ} {sc : List ℤ} {fp : List ℕ} {fc : List ℤ} (gp : List ℕ) (gc : List ℤ) (wp₀ : List ℕ) (wc₀ : List ℤ) {wp : List ℕ} {wc : List ℤ}
-    → Given v sp sc fp fc → Allowed v sp sc fp fc → largest ≡ largestPower v (terms fp fc) → mostTerms + mostTerms ≡ length gp → mostTerms + mostTerms ≡ length gc
+-- all pairs of a sum and of 1 are its terms
+pairs-unit : (n : ℕ) (s : Sum) → Every (Long n) s → pairs s (unit n) ≡ s
+unfolding pairs row
+pairs-unit n [] h = refl
+pairs-unit n (t ∷ s) h =
+    ap₂ (λ (u : Term) (l : Sum). u ∷ l) (ap₂ term (*ℤ-oner (t .coefficient)) (times-comm (t .pattern) (emptyPattern n) ∙ empty-times n (t .pattern) (h .0))) (pairs-unit n s (h .1))
+
+pub start : {v largest : ℕ} {sp : List ℕ} {sc : List ℤ} {fp : List ℕ} {fc : List ℤ} {gp : List ℕ} {gc : List ℤ} {all : ℕ} (wp₀ : List ℕ) (wc₀ : List ℤ) {wp : List ℕ} {wc : List ℤ}
+    → Given v sp sc fp fc → Allowed v sp sc fp fc → largest ≡ largestPower v (terms fp fc) → Stands (partAt v 0 (terms fp fc)) all gp gc → mostTerms + mostTerms ≡ length gp → mostTerms + mostTerms ≡ length gc
     → {answer : Formed ℕ} → (answer, wp, wc) ≡ formedInto (formed (integer variables (pos 1))) wp₀ wc₀ → mostTerms ≡ length wp → mostTerms ≡ length wc
-    → Joining v largest sp sc fp fc gp gc wp wc 1 0 0
-unfolding powerSpread gather rowsTo
-start {v} {sp = sp} {sc} {fp} {fc} gp gc wp₀ wc₀ g a largest-is words-room coefficients-room told power-words-room power-coefficients-room = record {
-  given-pair = g;
-  allowed = a;
-  largest-is = largest-is;
-  inside = omega arith;
-  raised = first-power (terms sp sc) wp₀ wc₀ told power-words-room power-coefficients-room;
-  narrow = omega arith;
-  before = [];
-  rows-are = sym (append-nil (rowsAt v 0 (power variables (terms sp sc) 0) (terms fp fc)));
-  so-far = placed-written gp gc refl refl refl holdable-none;
-  words-room = words-room;
-  coefficients-room = coefficients-room;
-}
+    → Putting v largest sp sc fp fc gp gc wp wc 1 all 0
+unfolding powerSpread rowsTo power
+start {v} {sp = sp} {sc} {fp} {fc} wp₀ wc₀ g a largest-is stands words-room coefficients-room told power-words-room power-coefficients-room =
+    let held = part-holdable v 0 (g .known) (holdable (g .into .held)) in
+    let part = partAt v 0 (terms fp fc) in
+    let same : gather (pairs part (unit variables)) ≡ part = ap gather (pairs-unit variables part (held .long)) ∙ gather-fixed part (held .strict) in
+    record {
+      given-pair = g;
+      allowed = a;
+      largest-is = largest-is;
+      inside = omega arith;
+      raised = first-power (terms sp sc) wp₀ wc₀ told power-words-room power-coefficients-room;
+      narrow = omega arith;
+      so-far = rw same (record { stands = stands; holdable = held });
+      words-room = words-room;
+      coefficients-room = coefficients-room;
+    }
 
 -- ---- The rows of the power k are added.
 

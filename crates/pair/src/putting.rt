@@ -159,27 +159,10 @@ pub fn put(
     let mut pr = [0u64; MOST_TERMS];
     let mut pc = [0i64; MOST_TERMS];
     let mut wr = [0u64; MOST_TERMS];
-    // The power 0 is 1, which has one term.
+    // The power 0 is 1: the terms without the variable stand as they are.
+    let mut all = take_part(v, 0, fp, fc, &mut gr, &mut gc);
     sums::integer(1, &mut wp, &mut wc);
     let mut n = 1;
-    let first = add_rows(
-        v,
-        0,
-        fp,
-        fc,
-        &wp[0..1],
-        &wc[0..1],
-        &mut gr,
-        &mut gc,
-        0,
-        &mut pr,
-        &mut pc,
-        &mut wr,
-    );
-    let Formed::Terms(free) = first else {
-        return first;
-    };
-    let mut all = free;
     let mut k = 0;
     while k < largest {
         let raised = raise(&mut wp, &mut wc, n, sp, sc, &mut pr, &mut pc);

@@ -16,12 +16,21 @@ use Rattle.pair.proofs.putting.put.Statement.{statement}
 use Rattle.pair.proofs.putting.put.Tie as tie
 
 abbrev Inv-loop : tie.InvT-loop
-Inv-loop v largest sp sc fp fc patterns coefficients gr₀ gc₀ wp₀ wc₀ pr₀ pc₀ wr₀ n₀ free all₀ k₀ gr gc wp wc pr pc wr n all k =
+Inv-loop v largest sp sc fp fc patterns coefficients gr₀ gc₀ wp₀ wc₀ pr₀ pc₀ wr₀ all₀ n₀ k₀ gr gc wp wc pr pc wr all n k =
     Putting v largest sp sc fp fc (wordsAt gr) gc wp wc n all k × Lent gr pr pc wr
 
 abbrev μ-loop : tie.MeasureT-loop
-μ-loop v largest sp sc fp fc patterns coefficients gr₀ gc₀ wp₀ wc₀ pr₀ pc₀ wr₀ n₀ free all₀ k₀ gr gc wp wc pr pc wr n all k =
+μ-loop v largest sp sc fp fc patterns coefficients gr₀ gc₀ wp₀ wc₀ pr₀ pc₀ wr₀ all₀ n₀ k₀ gr gc wp wc pr pc wr all n k =
     largest - k
+
+slice-aggregate-take-part : tie.Need-slice-aggregate-take-part Inv-loop μ-loop
+slice-aggregate-take-part c = search needs
+
+slice-aggregate-take-part-2 : tie.Need-slice-aggregate-take-part-2 Inv-loop μ-loop
+slice-aggregate-take-part-2 c = search needs
+
+take-part-requires : tie.Need-take-part-requires Inv-loop μ-loop
+take-part-requires c κs = let pre = c .before .before .before .before .before .pre in (pre .0 .known, (pre .0 .into .held, record { words = search needs; coefficients = search needs }))
 
 slice-aggregate-integer : tie.Need-slice-aggregate-integer Inv-loop μ-loop
 slice-aggregate-integer c = search needs
@@ -32,67 +41,13 @@ slice-aggregate-integer-2 c = search needs
 integer-requires : tie.Need-integer-requires Inv-loop μ-loop
 integer-requires c κs = record { words = search needs; coefficients = search needs }
 
-sub-add-rows : tie.Need-sub-add-rows Inv-loop μ-loop
-sub-add-rows c = search needs
-
-part-add-rows-start : tie.Need-part-add-rows-start Inv-loop μ-loop
-part-add-rows-start c = search needs
-
-part-add-rows-end : tie.Need-part-add-rows-end Inv-loop μ-loop
-part-add-rows-end c = search needs
-
-sub-add-rows-2 : tie.Need-sub-add-rows-2 Inv-loop μ-loop
-sub-add-rows-2 c = search needs
-
-part-add-rows-start-2 : tie.Need-part-add-rows-start-2 Inv-loop μ-loop
-part-add-rows-start-2 c = search needs
-
-part-add-rows-end-2 : tie.Need-part-add-rows-end-2 Inv-loop μ-loop
-part-add-rows-end-2 c = search needs
-
-slice-aggregate-add-rows : tie.Need-slice-aggregate-add-rows Inv-loop μ-loop
-slice-aggregate-add-rows c = search needs
-
-slice-aggregate-add-rows-2 : tie.Need-slice-aggregate-add-rows-2 Inv-loop μ-loop
-slice-aggregate-add-rows-2 c = search needs
-
-slice-aggregate-add-rows-3 : tie.Need-slice-aggregate-add-rows-3 Inv-loop μ-loop
-slice-aggregate-add-rows-3 c = search needs
-
-slice-aggregate-add-rows-4 : tie.Need-slice-aggregate-add-rows-4 Inv-loop μ-loop
-slice-aggregate-add-rows-4 c = search needs
-
-slice-aggregate-add-rows-5 : tie.Need-slice-aggregate-add-rows-5 Inv-loop μ-loop
-slice-aggregate-add-rows-5 c = search needs
-
--- the power 0 stands in the arrays, and no rows are added yet
-first-rows : (d : tie.After-integer Inv-loop μ-loop)
-    → let args = d .before .before .before .before .before .before .args in
-    Joining (args .v) (args .largest) (args .sp .now) (args .sc .now) (args .fp .now) (args .fc .now) (wordsAt (replicate (mostTerms + mostTerms) 0)) (replicate (mostTerms + mostTerms) (pos 0)) (d .integer .last .1 .0) (d .integer .last .1 .1 .0) 1 0 0
-first-rows d =
-    let pre = d .before .before .before .before .before .before .pre in
-    start (wordsAt (replicate (mostTerms + mostTerms) 0)) (replicate (mostTerms + mostTerms) (pos 0)) (replicate mostTerms 0) (replicate mostTerms (pos 0)) (pre .0) (pre .1 .0) (pre .1 .1 .0) (sym (length-map (replicate (mostTerms + mostTerms) 0) wordAt)) refl (d .integer .ensures) (sym (d .integer .kept .1 .0)) (sym (d .integer .kept .1 .1 .0))
-
-add-rows-requires : tie.Need-add-rows-requires Inv-loop μ-loop
-add-rows-requires c κs = (can-add (first-rows (c .before .before .before .before .before .before .before .before .before .before .before)) (sub-zero 1), (record { words = search needs; coefficients = search needs }, search needs))
-
-enum-known-first : tie.Need-enum-known-first Inv-loop μ-loop
-enum-known-first c = search needs
-
-enum-told : tie.Need-enum-told Inv-loop μ-loop
-enum-told c = search needs
-
-returns : tie.Need-returns Inv-loop μ-loop
-returns c =
-    let r = c .before .before .before .before .before .before .before .add-rows in
-    rows-stop (first-rows (c .before .before .before .before .before .before .before .before .before .before .before .before .before .before .before .before .before .before .before)) (sub-zero 1) (r .result) (r .ensures) (c .before .match .keys2) _ _
-
 loop-holds : tie.Need-loop-holds Inv-loop μ-loop
 loop-holds c =
-    let r = c .before .before .before .before .before .before .before .before .add-rows in
-    let same = length-map (r .last .1 .1 .1 .1 .1 .1 .0) wordAt ∙ r .kept .1 .1 .1 .1 .1 .1 .0 ∙ sym (length-map (replicate (mostTerms + mostTerms) 0) wordAt) in (
-      joins (first-rows (c .before .before .before .before .before .before .before .before .before .before .before .before .before .before .before .before .before .before .before .before)) (sub-zero 1) (r .result) (r .ensures) (c .before .first .given .1) same (r .kept .1 .1 .1 .1 .1 .1 .1 .0),
-      record { running = sym (r .kept .1 .1 .1 .1 .1 .1 .0); part-ranks = sym (r .kept .1 .1 .1 .1 .1 .1 .1 .1 .1 .0); part-coefficients = sym (r .kept .1 .1 .1 .1 .1 .1 .1 .1 .1 .1 .0); power-ranks = sym (r .kept .1 .1 .1 .1 .1 .1 .1 .1 .1 .1 .1 .0) },
+    let t = c .before .before .before .before .before .before .before .take-part in
+    let i = c .before .before .integer in
+    let pre = c .before .before .before .before .before .before .before .before .before .before .before .before .before .pre in (
+      start (replicate mostTerms 0) (replicate mostTerms (pos 0)) (pre .0) (pre .1 .0) (pre .1 .1 .0) (t .ensures) (sym (length-map (t .last .1 .1 .1 .1 .0) wordAt ∙ t .kept .1 .1 .1 .1 .0)) (sym (t .kept .1 .1 .1 .1 .1 .0)) (i .ensures) (sym (i .kept .1 .0)) (sym (i .kept .1 .1 .0)),
+      record { running = sym (t .kept .1 .1 .1 .1 .0); part-ranks = refl; part-coefficients = refl; power-ranks = refl },
     )
 
 slice-aggregate-raise : tie.Need-slice-aggregate-raise Inv-loop μ-loop
@@ -125,17 +80,17 @@ raise-requires c κs =
 enum-known-raised : tie.Need-enum-known-raised Inv-loop μ-loop
 enum-known-raised c = search needs
 
-enum-told-2 : tie.Need-enum-told-2 Inv-loop μ-loop
-enum-told-2 c = search needs
+enum-told : tie.Need-enum-told Inv-loop μ-loop
+enum-told c = search needs
 
-returns-2 : tie.Need-returns-2 Inv-loop μ-loop
-returns-2 c =
+returns : tie.Need-returns Inv-loop μ-loop
+returns c =
     let r = c .before .before .before .before .before .before .raise in
-    power-stop (c .before .before .before .before .before .before .before .before .before .before .before .before .loop .inv .0) (c .before .before .before .before .before .before .before .before .before .before .before .loop-test .taken) (r .result) (r .ensures) (c .before .match2 .keys2) _ _
+    power-stop (c .before .before .before .before .before .before .before .before .before .before .before .before .loop .inv .0) (c .before .before .before .before .before .before .before .before .before .before .before .loop-test .taken) (r .result) (r .ensures) (c .before .match .keys2) _ _
 
 -- the next power stands in the arrays, and its rows are not added yet
-next-rows : (d : tie.After-known-told2 Inv-loop μ-loop)
-    → let args = d .before .before .before .before .before .before .before .before .before .before .before .before .before .before .before .before .before .before .before .before .before .before .before .before .before .before .before .before .before .before .before .before .before .before .before .before .before .before .before .before .args in
+next-rows : (d : tie.After-known-told Inv-loop μ-loop)
+    → let args = d .before .before .before .before .before .before .before .before .before .before .before .before .before .before .before .before .before .before .before .before .before .before .before .before .before .before .before .args in
     let loop = d .before .before .before .before .before .before .before .before .before .before .before .before .before .loop in
     let r = d .before .before .before .before .before .before .before .raise in
     Joining (args .v) (args .largest) (args .sp .now) (args .sc .now) (args .fp .now) (args .fc .now) (wordsAt (loop .gr)) (loop .gc) (r .last .0) (r .last .1 .0) (d .before .raised .given .0 .0) (loop .all) (loop .k + 1)
@@ -144,43 +99,43 @@ next-rows d =
     raises (d .before .before .before .before .before .before .before .before .before .before .before .before .before .loop .inv .0) (d .before .before .before .before .before .before .before .before .before .before .before .before .loop-test .taken) (r .result) (r .ensures) (d .before .raised .given .1) (r .kept .0) (r .kept .1 .0)
 
 add-k : tie.Need-add-k Inv-loop μ-loop
-add-k c = record { fits = omega (arith, c .before .before .before .before .before .before .before .before .before .before .before .before .loop-test .taken, c .before .before .before .before .before .before .before .before .before .before .before .before .before .before .before .before .before .before .before .before .before .before .before .before .before .before .before .before .before .before .before .before .before .before .before .before .before .before .before .before .fits .largest) }
+add-k c = record { fits = omega (arith, c .before .before .before .before .before .before .before .before .before .before .before .before .loop-test .taken, c .before .before .before .before .before .before .before .before .before .before .before .before .before .before .before .before .before .before .before .before .before .before .before .before .before .before .before .fits .largest) }
 
-sub-add-rows-3 : tie.Need-sub-add-rows-3 Inv-loop μ-loop
-sub-add-rows-3 c = search needs
+sub-add-rows : tie.Need-sub-add-rows Inv-loop μ-loop
+sub-add-rows c = search needs
 
-part-add-rows-start-3 : tie.Need-part-add-rows-start-3 Inv-loop μ-loop
-part-add-rows-start-3 c = search needs
+part-add-rows-start : tie.Need-part-add-rows-start Inv-loop μ-loop
+part-add-rows-start c = search needs
 
-part-add-rows-end-3 : tie.Need-part-add-rows-end-3 Inv-loop μ-loop
-part-add-rows-end-3 c = let f = next-rows (c .before) .raised in omega (arith, front-few f, f .words-room)
+part-add-rows-end : tie.Need-part-add-rows-end Inv-loop μ-loop
+part-add-rows-end c = let f = next-rows (c .before) .raised in omega (arith, front-few f, f .words-room)
 
-sub-add-rows-4 : tie.Need-sub-add-rows-4 Inv-loop μ-loop
-sub-add-rows-4 c = search needs
+sub-add-rows-2 : tie.Need-sub-add-rows-2 Inv-loop μ-loop
+sub-add-rows-2 c = search needs
 
-part-add-rows-start-4 : tie.Need-part-add-rows-start-4 Inv-loop μ-loop
-part-add-rows-start-4 c = search needs
+part-add-rows-start-2 : tie.Need-part-add-rows-start-2 Inv-loop μ-loop
+part-add-rows-start-2 c = search needs
 
-part-add-rows-end-4 : tie.Need-part-add-rows-end-4 Inv-loop μ-loop
-part-add-rows-end-4 c = let f = next-rows (c .before .before .before) .raised in omega (arith, front-few f, f .coefficients-room)
+part-add-rows-end-2 : tie.Need-part-add-rows-end-2 Inv-loop μ-loop
+part-add-rows-end-2 c = let f = next-rows (c .before .before .before) .raised in omega (arith, front-few f, f .coefficients-room)
 
-slice-aggregate-add-rows-6 : tie.Need-slice-aggregate-add-rows-6 Inv-loop μ-loop
-slice-aggregate-add-rows-6 c = search needs
+slice-aggregate-add-rows : tie.Need-slice-aggregate-add-rows Inv-loop μ-loop
+slice-aggregate-add-rows c = search needs
 
-slice-aggregate-add-rows-7 : tie.Need-slice-aggregate-add-rows-7 Inv-loop μ-loop
-slice-aggregate-add-rows-7 c = search needs
+slice-aggregate-add-rows-2 : tie.Need-slice-aggregate-add-rows-2 Inv-loop μ-loop
+slice-aggregate-add-rows-2 c = search needs
 
-slice-aggregate-add-rows-8 : tie.Need-slice-aggregate-add-rows-8 Inv-loop μ-loop
-slice-aggregate-add-rows-8 c = search needs
+slice-aggregate-add-rows-3 : tie.Need-slice-aggregate-add-rows-3 Inv-loop μ-loop
+slice-aggregate-add-rows-3 c = search needs
 
-slice-aggregate-add-rows-9 : tie.Need-slice-aggregate-add-rows-9 Inv-loop μ-loop
-slice-aggregate-add-rows-9 c = search needs
+slice-aggregate-add-rows-4 : tie.Need-slice-aggregate-add-rows-4 Inv-loop μ-loop
+slice-aggregate-add-rows-4 c = search needs
 
-slice-aggregate-add-rows-10 : tie.Need-slice-aggregate-add-rows-10 Inv-loop μ-loop
-slice-aggregate-add-rows-10 c = search needs
+slice-aggregate-add-rows-5 : tie.Need-slice-aggregate-add-rows-5 Inv-loop μ-loop
+slice-aggregate-add-rows-5 c = search needs
 
-add-rows-requires-2 : tie.Need-add-rows-requires-2 Inv-loop μ-loop
-add-rows-requires-2 c κs =
+add-rows-requires : tie.Need-add-rows-requires Inv-loop μ-loop
+add-rows-requires c κs =
     let d = c .before .before .before .before .before .before .before .before .before in
     let r = d .before .before .before .before .before .before .before .raise in
     let spare = d .before .before .before .before .before .before .before .before .before .before .before .before .before .loop .inv .1 in (
@@ -194,20 +149,20 @@ add-rows-requires-2 c κs =
 enum-known-added : tie.Need-enum-known-added Inv-loop μ-loop
 enum-known-added c = search needs
 
-enum-told-3 : tie.Need-enum-told-3 Inv-loop μ-loop
-enum-told-3 c = search needs
+enum-told-2 : tie.Need-enum-told-2 Inv-loop μ-loop
+enum-told-2 c = search needs
 
-returns-3 : tie.Need-returns-3 Inv-loop μ-loop
-returns-3 c =
-    let r = c .before .before .before .before .before .before .before .add-rows2 in
-    rows-stop (next-rows (c .before .before .before .before .before .before .before .before .before .before .before .before .before .before .before .before .before)) (sub-zero _) (r .result) (r .ensures) (c .before .match3 .keys2) _ _
+returns-2 : tie.Need-returns-2 Inv-loop μ-loop
+returns-2 c =
+    let r = c .before .before .before .before .before .before .before .add-rows in
+    rows-stop (next-rows (c .before .before .before .before .before .before .before .before .before .before .before .before .before .before .before .before .before)) (sub-zero _) (r .result) (r .ensures) (c .before .match2 .keys2) _ _
 
 loop-less : tie.Need-loop-less Inv-loop μ-loop
 loop-less c = search needs
 
 loop-again : tie.Need-loop-again Inv-loop μ-loop
 loop-again c =
-    let r = c .before .before .before .before .before .before .before .before .add-rows2 in
+    let r = c .before .before .before .before .before .before .before .before .add-rows in
     let raised = c .before .before .before .before .before .before .before .before .before .before .before .before .before .before .before .before .before .before .before .before .before .before .before .before .before .raise in
     let loop = c .before .before .before .before .before .before .before .before .before .before .before .before .before .before .before .before .before .before .before .before .before .before .before .before .before .before .before .before .before .before .before .loop in
     let spare = loop .inv .1 in
@@ -242,7 +197,7 @@ part-finish-end-2 c = placed-inside (c .before .before .before .before .loop .in
 finish-requires : tie.Need-finish-requires Inv-loop μ-loop
 finish-requires c κs =
     let loop = c .before .before .before .before .before .before .before .loop in
-    (rw (sub-zero (loop .all), map-take wordAt (loop .all) (loop .gr)) (placed-held (loop .inv .0 .so-far)), c .before .before .before .before .before .before .before .before .before .before .before .before .before .before .before .before .before .before .before .before .before .before .before .before .before .before .before .before .before .before .before .before .before .before .pre .1 .1 .1)
+    (rw (sub-zero (loop .all), map-take wordAt (loop .all) (loop .gr)) (placed-held (loop .inv .0 .so-far)), c .before .before .before .before .before .before .before .before .before .before .before .before .before .before .before .before .before .before .before .before .before .pre .1 .1 .1)
 
 same-length : tie.Need-same-length Inv-loop μ-loop
 same-length c = search needs
@@ -250,10 +205,10 @@ same-length c = search needs
 same-length-2 : tie.Need-same-length-2 Inv-loop μ-loop
 same-length-2 c = search needs
 
-returns-4 : tie.Need-returns-4 Inv-loop μ-loop
-returns-4 c =
+returns-3 : tie.Need-returns-3 Inv-loop μ-loop
+returns-3 c =
     let loop = c .before .before .before .before .before .before .before .before .before .before .before .loop in
-    let args = c .before .before .before .before .before .before .before .before .before .before .before .before .before .before .before .before .before .before .before .before .before .before .before .before .before .before .before .before .before .before .before .before .before .before .before .before .before .before .args in
+    let args = c .before .before .before .before .before .before .before .before .before .before .before .before .before .before .before .before .before .before .before .before .before .before .before .before .before .args in
     (rw (sub-zero (loop .all), map-take wordAt (loop .all) (loop .gr)) at (c .before .before .before .finish .ensures))
     ∙ ap (λ x. formedInto x (args .patterns .now) (args .coefficients .now)) (ended (loop .inv .0) (c .before .before .before .before .before .before .before .before .before .before .loop-test .left))
 
@@ -263,9 +218,22 @@ put-spec =
     (tie.spec
     Inv-loop
     μ-loop
+    slice-aggregate-take-part
+    slice-aggregate-take-part-2
+    take-part-requires
     slice-aggregate-integer
     slice-aggregate-integer-2
     integer-requires
+    loop-holds
+    slice-aggregate-raise
+    slice-aggregate-raise-2
+    slice-aggregate-raise-3
+    slice-aggregate-raise-4
+    raise-requires
+    enum-known-raised
+    enum-told
+    returns
+    add-k
     sub-add-rows
     part-add-rows-start
     part-add-rows-end
@@ -278,34 +246,9 @@ put-spec =
     slice-aggregate-add-rows-4
     slice-aggregate-add-rows-5
     add-rows-requires
-    enum-known-first
-    enum-told
-    returns
-    loop-holds
-    slice-aggregate-raise
-    slice-aggregate-raise-2
-    slice-aggregate-raise-3
-    slice-aggregate-raise-4
-    raise-requires
-    enum-known-raised
+    enum-known-added
     enum-told-2
     returns-2
-    add-k
-    sub-add-rows-3
-    part-add-rows-start-3
-    part-add-rows-end-3
-    sub-add-rows-4
-    part-add-rows-start-4
-    part-add-rows-end-4
-    slice-aggregate-add-rows-6
-    slice-aggregate-add-rows-7
-    slice-aggregate-add-rows-8
-    slice-aggregate-add-rows-9
-    slice-aggregate-add-rows-10
-    add-rows-requires-2
-    enum-known-added
-    enum-told-3
-    returns-3
     loop-less
     loop-again
     sub-finish
@@ -317,4 +260,4 @@ put-spec =
     finish-requires
     same-length
     same-length-2
-    returns-4)
+    returns-3)
