@@ -6,16 +6,15 @@ use native.Mathlib.Omega.{arith}
 use lib.IntN.{ℤ}
 use lib.ListN.{length, take, length-take, length-map}
 use lib.Seq.{length-take-le, take-all}
-use Rattle.algebra.specs.Limits.{variables, mostTerms}
+use Rattle.algebra.specs.Limits.{mostTerms}
 use Rattle.algebra.specs.Sum.{Term, Sum}
-use Rattle.algebra.specs.Accepted.{Accepted}
 use Rattle.algebra.specs.Word.{terms}
 use Rattle.algebra.specs.Held.{wordFor, wordsOf, coefficientsOf, firstTerms}
 use Rattle.answers.specs.Areas.{written}
 use Rattle.answers.proofs.Writes.{written-front}
-use Rattle.sums.specs.Held.{Held, HeldSum}
+use Rattle.sums.specs.Held.{Held}
 use Rattle.sums.specs.Rows.{Stands}
-use Rattle.sums.proofs.Holding.{Holdable, as-many, terms-many, holdable, spells, holds, holds-sum}
+use Rattle.sums.proofs.Holding.{Holdable, as-many, terms-many, holdable, spells, holds}
 
 pub record Placed (s : Sum) (n : ℕ) (ws : List ℕ) (cs : List ℤ) : Type 0 where
   pub stands : Stands s n ws cs
@@ -99,6 +98,3 @@ module _ {s : Sum} {ws : List ℕ} {cs : List ℤ} {n : ℕ} (f : Front s ws cs 
 
   pub front-held : Held (take n ws) (take n cs)
   front-held = placed-held front-placed
-
-  pub front-sum : Accepted variables s → HeldSum (take n ws) (take n cs)
-  front-sum a = rw (f .words-are, f .coefficients-are) (holds-sum a)

@@ -5,7 +5,6 @@ use mathlib.Core.List.{List}
 use Prim.Native.Nat.{ℕ, _≤_}
 use native.Mathlib.Omega.{arith}
 use lib.IntN.{ℤ}
-use lib.ListN.{length}
 use Rattle.algebra.specs.Limits.{variables, largestDegree, mostTerms}
 use Rattle.algebra.specs.Sum.{Term}
 use Rattle.algebra.specs.Collect.{gather, dropZeros, collect, spread}
@@ -13,14 +12,11 @@ use Rattle.algebra.specs.Held.{firstTerms}
 use Rattle.algebra.proofs.Sums.Every.{Every, gather-every, Long, UpTo, every-degree}
 use Rattle.algebra.proofs.Sums.Ordered.{gather-order}
 use Rattle.algebra.proofs.Sums.Occurs.{spread-gather}
-use Rattle.sums.specs.Formed.{formedOf, Formed.formed, within, formedInto}
-use Rattle.sums.specs.declared.Formed as declared
-use Rattle.sums.specs.declared.Formed.the-variants.{Terms}
+use Rattle.sums.specs.Formed.{Formed.formed, within}
 use Rattle.sums.specs.Rows.{Stands}
 use Rattle.sums.proofs.Holding.{Holdable}
 use Rattle.sums.proofs.Forming.{within-yes}
-use Rattle.sums.proofs.Answering.{given}
-use Rattle.sums.proofs.Fronts.{Placed, placed-is, Front, front-placed, front-written}
+use Rattle.sums.proofs.Fronts.{Placed, placed-is}
 
 module _ (l : List Term) where
   pub gathered : Every (Long variables) l → Every (UpTo largestDegree) l → spread l ≤ mostTerms → Holdable (gather l)
@@ -31,15 +27,6 @@ module _ (l : List Term) where
     few = omega (arith, spread-gather l);
   }
 
-  -- an answer that has terms
-  pub gathered-front : Every (Long variables) l → Every (UpTo largestDegree) l → {s : List Term} {ws : List ℕ} {cs : List ℤ} {n : ℕ} → Front s ws cs n
-      → {ws' : List ℕ} {cs' : List ℤ} (r : declared.Formed) → (formedOf r, ws', cs') ≡ formedInto (within (spread l) (gather l)) ws cs
-      → {all count : ℕ} → r ≡ Terms all → count ≡ all → length ws' ≡ length ws → length cs' ≡ length cs → Front (gather l) ws' cs' count
-  gathered-front long low {ws = ws} {cs} before {ws'} {cs'} r answer is part same-words same-coefficients =
-      let g = given (spread l) (gather l) ws cs ws' cs' r is answer in
-      front-written ws cs (g .words-are) (g .coefficients-are) (g .many ∙ sym part) (gathered long low (g .few))
-      (omega (arith, before .words-room)) (omega (arith, before .coefficients-room))
-
   -- a list whose spread is at most 128
   pub gathered-placed : Every (Long variables) l → Every (UpTo largestDegree) l → spread l ≤ mostTerms → {n : ℕ} {ws : List ℕ} {cs : List ℤ} → Stands (gather l) n ws cs → Placed (gather l) n ws cs
   gathered-placed long low few stands = record { stands = stands; holdable = gathered long low few }
@@ -49,6 +36,3 @@ module _ (l : List Term) where
   placed-finished p =
       let few : spread l ≤ mostTerms = omega (arith, spread-gather l, p .holdable .few) in
       ap (λ s. formed (dropZeros s)) (placed-is p) ∙ sym (within-yes (spread l) (dropZeros (gather l)) few)
-
-  pub finished : {ws : List ℕ} {cs : List ℤ} {all : ℕ} → Front (gather l) ws cs all → formed (dropZeros (firstTerms all ws cs)) ≡ within (spread l) (collect l)
-  finished f = placed-finished (front-placed f)

@@ -14,13 +14,7 @@ pub record Room (ws : List ℕ) (cs : List ℤ) : Type 0 where
   pub words : mostTerms ≤ length ws
   pub coefficients : mostTerms ≤ length cs
 
--- two sums that can be added
-pub record Addends (sp : List ℕ) (sc : List ℤ) (tp : List ℕ) (tc : List ℤ) : Type 0 where
-  pub first : Held sp sc
-  pub second : Held tp tc
-  pub light : weight (terms sp sc) + weight (terms tp tc) ≤ largestWeight
-
--- multiplied
+-- two sums that can be multiplied
 pub record Factors (sp : List ℕ) (sc : List ℤ) (tp : List ℕ) (tc : List ℤ) : Type 0 where
   pub first : Held sp sc
   pub second : Held tp tc

@@ -1,6 +1,6 @@
 -- `merge` meets its contract: the loop keeps `Merging`.
 use mathlib.Core.Path.{_≡_, sym, _∙_, ap, ap₂, subst}
-use Prim.Native.Nat.{_+_, _*_, _-_}
+use Prim.Native.Nat.{_+_, _*_, _-_, Ordering·lt, Ordering·eq, Ordering·gt}
 use mathlib.Core.Bool.{false}
 use native.Mathlib.Omega.{arith}
 use borrow.Author.Needs.{needs}
@@ -12,6 +12,8 @@ use mir.ValLaws.{toZ-ofZ}
 use Rattle.algebra.specs.Limits.{mostTerms}
 use Rattle.algebra.specs.Sum.{isZero}
 use Rattle.algebra.specs.Standing.{standing}
+use Rattle.algebra.specs.Word.{exponents}
+use Rattle.nodes.specs.Direct.{nextStands}
 use Rattle.algebra.proofs.Numbers.Signed.{zero-bits, nonzero-bits}
 use Rattle.nodes.proofs.Merges.{Merging, begin, first-valid, second-valid, may-first, steps-first, may-second, steps-second, case-both, both-fit, steps-none, may-both, steps-both, finally}
 use Rattle.nodes.proofs.direct.merge.Statement.{statement}
@@ -31,6 +33,34 @@ mul-q c = search needs
 
 mul-start : tie.Need-mul-start Inv-loop μ-loop
 mul-start c = search needs
+
+-- ---- What the comparison said, in each of the three arms.
+
+first-said : (d : tie.After-enum-told Inv-loop μ-loop)
+    → let loop = d .before .before .before .before .before .loop in
+    let args = d .before .before .before .before .before .before .before .args in
+    let p = exponents (getD (loop .patterns) (mostTerms * args .a + loop .x) 0) in
+    let q = exponents (getD (loop .patterns) (mostTerms * args .b + loop .y) 0) in
+    nextStands (loop .x) (args .n) (loop .y) (args .m) p q ≡ Ordering·lt
+first-said d = sym (d .before .before .stands .ensures) ∙ ap standing (d .enum-told .given .1)
+
+both-said : (d : tie.After-enum-told2 Inv-loop μ-loop)
+    → let loop = d .before .before .before .before .before .loop in
+    let args = d .before .before .before .before .before .before .before .args in
+    let p = exponents (getD (loop .patterns) (mostTerms * args .a + loop .x) 0) in
+    let q = exponents (getD (loop .patterns) (mostTerms * args .b + loop .y) 0) in
+    nextStands (loop .x) (args .n) (loop .y) (args .m) p q ≡ Ordering·eq
+both-said d = sym (d .before .before .stands .ensures) ∙ ap standing (d .enum-told2 .given .1)
+
+second-said : (d : tie.After-enum-told3 Inv-loop μ-loop)
+    → let loop = d .before .before .before .before .before .loop in
+    let args = d .before .before .before .before .before .before .before .args in
+    let p = exponents (getD (loop .patterns) (mostTerms * args .a + loop .x) 0) in
+    let q = exponents (getD (loop .patterns) (mostTerms * args .b + loop .y) 0) in
+    nextStands (loop .x) (args .n) (loop .y) (args .m) p q ≡ Ordering·gt
+second-said d = sym (d .before .before .stands .ensures) ∙ ap standing (d .enum-told3 .given .1)
+
+-- ----
 
 loop-holds : tie.Need-loop-holds Inv-loop μ-loop
 loop-holds c = let pre = c .before .pre in begin (record { place = pre .0; first = pre .1 .0; second = pre .1 .1 .0; light = pre .1 .1 .1 .0; few = pre .1 .1 .1 .1 })
@@ -58,7 +88,7 @@ add-copy-term-2 c = search needs
 copy-term-requires : tie.Need-copy-term-requires Inv-loop μ-loop
 copy-term-requires c κs =
     let l = c .before .before .before .before .before .before .before .loop .inv in
-    let may = may-first (c .before .before .before .before .before .before .before .loop .inv) (c .before .before .before .before .before .before .loop-test .taken) (sym (c .before .before .before .before .stands .ensures) ∙ ap standing (c .before .before .enum-told .given .1)) in
+    let may = may-first (c .before .before .before .before .before .before .before .loop .inv) (c .before .before .before .before .before .before .loop-test .taken) (first-said (c .before .before)) in
     (omega (arith, may .0, l .first-few, l .first-there .before, l .first-there .words), (omega (arith, may .0, l .first-few, l .first-there .before, l .first-there .coefficients), (omega (arith, may .1, l .first-there .words), omega (arith, may .1, l .first-there .coefficients))))
 
 add-x : tie.Need-add-x Inv-loop μ-loop
@@ -68,10 +98,10 @@ add-k : tie.Need-add-k Inv-loop μ-loop
 add-k c = search needs
 
 loop-less : tie.Need-loop-less Inv-loop μ-loop
-loop-less c = omega (arith, may-first (c .before .before .before .before .before .before .before .before .before .before .before .loop .inv) (c .before .before .before .before .before .before .before .before .before .before .loop-test .taken) (sym (c .before .before .before .before .before .before .before .before .stands .ensures) ∙ ap standing (c .before .before .before .before .before .before .enum-told .given .1)) .0)
+loop-less c = omega (arith, may-first (c .before .before .before .before .before .before .before .before .before .before .before .loop .inv) (c .before .before .before .before .before .before .before .before .before .before .loop-test .taken) (first-said (c .before .before .before .before .before .before)) .0)
 
 loop-again : tie.Need-loop-again Inv-loop μ-loop
-loop-again c = rw (c .before .before .before .copy-term .ensures .0, c .before .before .before .copy-term .ensures .1) (steps-first (c .before .before .before .before .before .before .before .before .before .before .before .loop .inv) (c .before .before .before .before .before .before .before .before .before .before .loop-test .taken) (sym (c .before .before .before .before .before .before .before .before .stands .ensures) ∙ ap standing (c .before .before .before .before .before .before .enum-told .given .1)))
+loop-again c = rw (c .before .before .before .copy-term .ensures .0, c .before .before .before .copy-term .ensures .1) (steps-first (c .before .before .before .before .before .before .before .before .before .before .before .loop .inv) (c .before .before .before .before .before .before .before .before .before .before .loop-test .taken) (first-said (c .before .before .before .before .before .before)))
 
 enum-told-2 : tie.Need-enum-told-2 Inv-loop μ-loop
 enum-told-2 c = search needs
@@ -126,7 +156,7 @@ differ d f =
 
 add-e : tie.Need-add-e Inv-loop μ-loop
 add-e c =
-    let same = sym (c .before .before .before .before .stands .ensures) ∙ ap standing (c .before .before .enum-told2 .given .1) in
+    let same = both-said (c .before .before) in
     subst (SFits w64) (sym (both c)) (both-fit (c .before .before .before .before .before .before .before .loop .inv) (c .before .before .before .before .before .before .loop-test .taken) same)
 
 add-x-2 : tie.Need-add-x-2 Inv-loop μ-loop
@@ -141,7 +171,7 @@ loop-less-2 c = search needs
 loop-again-2 : tie.Need-loop-again-2 Inv-loop μ-loop
 loop-again-2 c =
     let d = c .before in
-    let same = sym (d .before .before .before .before .stands .ensures) ∙ ap standing (d .before .before .enum-told2 .given .1) in
+    let same = both-said (d .before .before) in
     steps-none (d .before .before .before .before .before .before .before .loop .inv) (d .before .before .before .before .before .before .loop-test .taken) same (ap isZero (sym (both d)) ∙ zero-bits _ (add-e d) (c .if1 .taken))
 
 add-patterns : tie.Need-add-patterns Inv-loop μ-loop
@@ -163,7 +193,7 @@ slice-write-patterns : tie.Need-slice-write-patterns Inv-loop μ-loop
 slice-write-patterns c =
     let d = c .before .before in
     let l = d .before .before .before .before .before .before .before .loop .inv in
-    let same = sym (d .before .before .before .before .stands .ensures) ∙ ap standing (d .before .before .enum-told2 .given .1) in
+    let same = both-said (d .before .before) in
     omega (arith, may-both l (d .before .before .before .before .before .before .loop-test .taken) same (differ d (c .before .if1 .left)), l .first-there .words)
 
 add-e-2 : tie.Need-add-e-2 Inv-loop μ-loop
@@ -176,7 +206,7 @@ slice-set-from-e : tie.Need-slice-set-from-e Inv-loop μ-loop
 slice-set-from-e c =
     let d = c .before .before in
     let l = d .before .before .before .before .before .before .before .loop .inv in
-    let same = sym (d .before .before .before .before .stands .ensures) ∙ ap standing (d .before .before .enum-told2 .given .1) in
+    let same = both-said (d .before .before) in
     omega (arith, may-both l (d .before .before .before .before .before .before .loop-test .taken) same (differ d (c .before .if1 .left)), l .first-there .coefficients)
 
 add-x-3 : tie.Need-add-x-3 Inv-loop μ-loop
@@ -194,7 +224,7 @@ loop-less-3 c = search needs
 loop-again-3 : tie.Need-loop-again-3 Inv-loop μ-loop
 loop-again-3 c =
     let d = c .before .before in
-    let same = sym (d .before .before .before .before .stands .ensures) ∙ ap standing (d .before .before .enum-told2 .given .1) in
+    let same = both-said (d .before .before) in
     steps-both (d .before .before .before .before .before .before .before .loop .inv) (d .before .before .before .before .before .before .loop-test .taken) same (differ d (c .before .if1 .left)) (toZ-ofZ w64 _ (add-e d) ∙ both d)
 
 enum-told-3 : tie.Need-enum-told-3 Inv-loop μ-loop
@@ -209,7 +239,7 @@ add-copy-term-4 c = search needs
 copy-term-requires-2 : tie.Need-copy-term-requires-2 Inv-loop μ-loop
 copy-term-requires-2 c κs =
     let l = c .before .before .before .before .before .before .before .loop .inv in
-    let may = may-second (c .before .before .before .before .before .before .before .loop .inv) (c .before .before .before .before .before .before .loop-test .taken) (sym (c .before .before .before .before .stands .ensures) ∙ ap standing (c .before .before .enum-told3 .given .1)) in
+    let may = may-second (c .before .before .before .before .before .before .before .loop .inv) (c .before .before .before .before .before .before .loop-test .taken) (second-said (c .before .before)) in
     (omega (arith, may .0, l .second-few, l .second-there .before, l .first-there .words), (omega (arith, may .0, l .second-few, l .second-there .before, l .first-there .coefficients), (omega (arith, may .1, l .first-there .words), omega (arith, may .1, l .first-there .coefficients))))
 
 add-y-3 : tie.Need-add-y-3 Inv-loop μ-loop
@@ -219,10 +249,10 @@ add-k-3 : tie.Need-add-k-3 Inv-loop μ-loop
 add-k-3 c = search needs
 
 loop-less-4 : tie.Need-loop-less-4 Inv-loop μ-loop
-loop-less-4 c = omega (arith, may-second (c .before .before .before .before .before .before .before .before .before .before .before .loop .inv) (c .before .before .before .before .before .before .before .before .before .before .loop-test .taken) (sym (c .before .before .before .before .before .before .before .before .stands .ensures) ∙ ap standing (c .before .before .before .before .before .before .enum-told3 .given .1)) .0)
+loop-less-4 c = omega (arith, may-second (c .before .before .before .before .before .before .before .before .before .before .before .loop .inv) (c .before .before .before .before .before .before .before .before .before .before .loop-test .taken) (second-said (c .before .before .before .before .before .before)) .0)
 
 loop-again-4 : tie.Need-loop-again-4 Inv-loop μ-loop
-loop-again-4 c = rw (c .before .before .before .copy-term2 .ensures .0, c .before .before .before .copy-term2 .ensures .1) (steps-second (c .before .before .before .before .before .before .before .before .before .before .before .loop .inv) (c .before .before .before .before .before .before .before .before .before .before .loop-test .taken) (sym (c .before .before .before .before .before .before .before .before .stands .ensures) ∙ ap standing (c .before .before .before .before .before .before .enum-told3 .given .1)))
+loop-again-4 c = rw (c .before .before .before .copy-term2 .ensures .0, c .before .before .before .copy-term2 .ensures .1) (steps-second (c .before .before .before .before .before .before .before .before .before .before .before .loop .inv) (c .before .before .before .before .before .before .before .before .before .before .loop-test .taken) (second-said (c .before .before .before .before .before .before)))
 
 same-length : tie.Need-same-length Inv-loop μ-loop
 same-length c = search needs
