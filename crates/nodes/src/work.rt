@@ -101,8 +101,8 @@ fn product_by(
     )
 }
 
-// The same, by way of small arrays if both operands are small: to clear large ones would take longer than to form the product. With an operand of one term nothing is copied at all.
-fn form_product(
+// The same, by way of small arrays if both operands are small: to clear large ones would take longer than to form the product.
+fn copied_product(
     a: usize,
     b: usize,
     i: usize,
@@ -113,18 +113,8 @@ fn form_product(
     requires { ⌜ Ready i (now counts) (now patterns) (now coefficients) (product a b) ⌝ }
     ensures { λ r. ⌜ FormedAt i (nodeFormed (sumsAt i (now (counts .entry)) (now (patterns .entry)) (now (coefficients .entry))) (product a b)) (formedOf r) (now (patterns .entry)) (now (coefficients .entry)) (now (patterns .exit)) (now (coefficients .exit)) ⌝ }
 {
-    let n = counts[a];
-    let m = counts[b];
-    if n == 1 {
-        direct::multiply(patterns, coefficients, a, b, m, i);
-        return Formed::Terms(m);
-    }
-    if m == 1 {
-        direct::multiply(patterns, coefficients, b, a, n, i);
-        return Formed::Terms(n);
-    }
-    if n <= FEW_TERMS {
-        if m <= FEW_TERMS {
+    if counts[a] <= FEW_TERMS {
+        if counts[b] <= FEW_TERMS {
             let mut sp = [0u64; FEW_TERMS];
             let mut sc = [0i64; FEW_TERMS];
             let mut tp = [0u64; FEW_TERMS];
@@ -159,6 +149,31 @@ fn form_product(
         patterns,
         coefficients,
     )
+}
+
+// The product of two earlier nodes, into the part of node i. With an operand of one term nothing has to be copied.
+fn form_product(
+    a: usize,
+    b: usize,
+    i: usize,
+    counts: &[usize],
+    patterns: &mut [u64],
+    coefficients: &mut [i64],
+) -> Formed
+    requires { ⌜ Ready i (now counts) (now patterns) (now coefficients) (product a b) ⌝ }
+    ensures { λ r. ⌜ FormedAt i (nodeFormed (sumsAt i (now (counts .entry)) (now (patterns .entry)) (now (coefficients .entry))) (product a b)) (formedOf r) (now (patterns .entry)) (now (coefficients .entry)) (now (patterns .exit)) (now (coefficients .exit)) ⌝ }
+{
+    let n = counts[a];
+    let m = counts[b];
+    if n == 1 {
+        direct::multiply(patterns, coefficients, a, b, m, i);
+        return Formed::Terms(m);
+    }
+    if m == 1 {
+        direct::multiply(patterns, coefficients, b, a, n, i);
+        return Formed::Terms(n);
+    }
+    copied_product(a, b, i, counts, patterns, coefficients)
 }
 
 // A power, into the part of node i, by way of two arrays that have room for the base.

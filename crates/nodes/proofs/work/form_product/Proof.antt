@@ -1,4 +1,4 @@
--- `form_product` meets its contract: with an operand of one term nothing is copied, and otherwise the arrays have room for both operands.
+-- `form_product` meets its contract: an operand of one term is multiplied where it stands.
 use mathlib.Core.Path.{refl, sym}
 use native.Mathlib.Omega.{arith}
 use borrow.Author.Needs.{needs}
@@ -43,20 +43,8 @@ same-length-4 c = search needs
 returns-2 : tie.Need-returns-2
 returns-2 c = renamed (second-formed (c .before .before .before .before .before .before .before .before .before .before .before .before .pre) refl (sym (c .before .before .before .before .before .before .if2 .taken))) (c .before .before .before .multiply2 .ensures)
 
-slice-aggregate-product-by : tie.Need-slice-aggregate-product-by
-slice-aggregate-product-by c = search needs
-
-slice-aggregate-product-by-2 : tie.Need-slice-aggregate-product-by-2
-slice-aggregate-product-by-2 c = search needs
-
-slice-aggregate-product-by-3 : tie.Need-slice-aggregate-product-by-3
-slice-aggregate-product-by-3 c = search needs
-
-slice-aggregate-product-by-4 : tie.Need-slice-aggregate-product-by-4
-slice-aggregate-product-by-4 c = search needs
-
-product-by-requires : tie.Need-product-by-requires
-product-by-requires c κs = (c .before .before .before .before .before .before .before .before .before .before .before .before .before .before .pre, (omega arith, (omega arith, (omega arith, omega arith))))
+copied-product-requires : tie.Need-copied-product-requires
+copied-product-requires c κs = search needs
 
 same-length-5 : tie.Need-same-length-5
 same-length-5 c = search needs
@@ -65,36 +53,7 @@ same-length-6 : tie.Need-same-length-6
 same-length-6 c = search needs
 
 returns-3 : tie.Need-returns-3
-returns-3 c = c .before .before .before .before .before .before .before .product-by .ensures
-
-slice-aggregate-product-by-5 : tie.Need-slice-aggregate-product-by-5
-slice-aggregate-product-by-5 c = search needs
-
-slice-aggregate-product-by-6 : tie.Need-slice-aggregate-product-by-6
-slice-aggregate-product-by-6 c = search needs
-
-slice-aggregate-product-by-7 : tie.Need-slice-aggregate-product-by-7
-slice-aggregate-product-by-7 c = search needs
-
-slice-aggregate-product-by-8 : tie.Need-slice-aggregate-product-by-8
-slice-aggregate-product-by-8 c = search needs
-
-product-by-requires-2 : tie.Need-product-by-requires-2
-product-by-requires-2 c κs =
-    let s = c .before .before .before .before .before .before .before .before .before .before .before .before .before in
-    let h = factors-there (s .pre) in
-    let one = s .pre .keeps .few _ (h .0) in
-    let two = s .pre .keeps .few _ (h .1) in
-    (s .pre, (omega (arith, one), (omega (arith, one), (omega (arith, two), omega (arith, two)))))
-
-same-length-7 : tie.Need-same-length-7
-same-length-7 c = search needs
-
-same-length-8 : tie.Need-same-length-8
-same-length-8 c = search needs
-
-returns-4 : tie.Need-returns-4
-returns-4 c = c .before .before .before .before .before .before .before .product-by2 .ensures
+returns-3 c = search needs
 
 pub form-product-spec : {M : Type 1} → statement M
 form-product-spec =
@@ -112,19 +71,7 @@ form-product-spec =
     same-length-3
     same-length-4
     returns-2
-    slice-aggregate-product-by
-    slice-aggregate-product-by-2
-    slice-aggregate-product-by-3
-    slice-aggregate-product-by-4
-    product-by-requires
+    copied-product-requires
     same-length-5
     same-length-6
-    returns-3
-    slice-aggregate-product-by-5
-    slice-aggregate-product-by-6
-    slice-aggregate-product-by-7
-    slice-aggregate-product-by-8
-    product-by-requires-2
-    same-length-7
-    same-length-8
-    returns-4)
+    returns-3)
