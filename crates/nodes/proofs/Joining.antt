@@ -87,6 +87,13 @@ full-at (t ∷ s) zero f h = not-true (isZero (t .coefficient)) (full-head t s f
     not-true false h = refl
 full-at (t ∷ s) (suc x) f h = full-at s x (full-tail t s f) (omega arith)
 
+-- its first term, and the others
+rest-next : (s : Sum) (x : ℕ) → x < length s → drop x s ≡ getD s x none ∷ drop (x + 1) s
+rest-next s x h = drop-cons s x none h ∙ ap (λ (k : ℕ). getD s x none ∷ drop k s) (sym (add-one x))
+
+next-strict : (s : Sum) (x : ℕ) → x < length s → T (inOrder s) → T (inOrder (getD s x none ∷ drop (x + 1) s))
+next-strict s x h k = subst (λ l. T (inOrder l)) (rest-next s x h) (rest-strict x s k)
+
 ahead-rest : (p : Pattern) (t : Sum) (y : ℕ) → (y < length t → order p (getD t y none .pattern) ≡ Ordering·lt) → T (ahead p (drop y t))
 unfolding ahead
 ahead-rest p t y f = go (decLt y (length t))
@@ -128,29 +135,23 @@ module _ {s t : Sum} {x y : ℕ} {done : Sum} (strict-s : T (inOrder s)) (full-s
   more w z e = append-snoc done w z ∙ ap (λ l. done ++ l) (sym e) ∙ j .sum
 
   module _ (h : x < length s) where
-    s-rest : drop x s ≡ u ∷ drop (x + 1) s
-    s-rest = drop-cons s x none h ∙ ap (λ (k : ℕ). u ∷ drop k s) (sym (add-one x))
-
     pub takes-first : (y < length t → order (u .pattern) (v .pattern) ≡ Ordering·lt) → Joining s t (x + 1) y (done ++ (u ∷ []))
     takes-first f = record {
       first = omega arith;
       second = j .second;
       sum = more u (drop (x + 1) s ⊕ drop y t)
-          (ap (λ l. l ⊕ drop y t) s-rest
-          ∙ sum-first u (drop (x + 1) s) (drop y t) (subst (λ l. T (inOrder l)) s-rest (rest-strict x s strict-s)) (rest-strict y t strict-t) (ahead-rest (u .pattern) t y f) (full-at s x full-s h));
+          (ap (λ l. l ⊕ drop y t) (rest-next s x h)
+          ∙ sum-first u (drop (x + 1) s) (drop y t) (next-strict s x h strict-s) (rest-strict y t strict-t) (ahead-rest (u .pattern) t y f) (full-at s x full-s h));
     }
 
   module _ (h : y < length t) where
-    t-rest : drop y t ≡ v ∷ drop (y + 1) t
-    t-rest = drop-cons t y none h ∙ ap (λ (k : ℕ). v ∷ drop k t) (sym (add-one y))
-
     pub takes-second : (x < length s → order (u .pattern) (v .pattern) ≡ Ordering·gt) → Joining s t x (y + 1) (done ++ (v ∷ []))
     takes-second f = record {
       first = j .first;
       second = omega arith;
       sum = more v (drop x s ⊕ drop (y + 1) t)
-          (ap (λ l. drop x s ⊕ l) t-rest
-          ∙ sum-second (drop x s) v (drop (y + 1) t) (rest-strict x s strict-s) (subst (λ l. T (inOrder l)) t-rest (rest-strict y t strict-t))
+          (ap (λ l. drop x s ⊕ l) (rest-next t y h)
+          ∙ sum-second (drop x s) v (drop (y + 1) t) (rest-strict x s strict-s) (next-strict t y h strict-t)
           (ahead-rest (v .pattern) s x (λ k. order-back (u .pattern) (v .pattern) (f k))) (full-at t y full-t h));
     }
 
@@ -160,8 +161,8 @@ module _ {s t : Sum} {x y : ℕ} {done : Sum} (strict-s : T (inOrder s)) (full-s
 
       together : drop x s ⊕ drop y t ≡ keep (isZero (u .coefficient +ℤ v .coefficient)) w (drop (x + 1) s ⊕ drop (y + 1) t)
       together =
-          ap₂ _⊕_ (s-rest k) t-rest
-          ∙ sum-both u (drop (x + 1) s) v (drop (y + 1) t) (subst (λ l. T (inOrder l)) (s-rest k) (rest-strict x s strict-s)) (subst (λ l. T (inOrder l)) t-rest (rest-strict y t strict-t)) e
+          ap₂ _⊕_ (rest-next s x k) (rest-next t y h)
+          ∙ sum-both u (drop (x + 1) s) v (drop (y + 1) t) (next-strict s x k strict-s) (next-strict t y h strict-t) e
 
       pub takes-both : isZero (u .coefficient +ℤ v .coefficient) ≡ false → Joining s t (x + 1) (y + 1) (done ++ (w ∷ []))
       unfolding keep
@@ -203,31 +204,25 @@ module _ {s t : Sum} {x y count : ℕ} (strict-s : T (inOrder s)) (strict-t : T 
   v' = getD t y none
 
   module _ (h : x < length s) where
-    s-left : drop x s ≡ u' ∷ drop (x + 1) s
-    s-left = drop-cons s x none h ∙ ap (λ (k : ℕ). u' ∷ drop k s) (sym (add-one x))
-
     pub counts-first : (y < length t → order (u' .pattern) (v' .pattern) ≡ Ordering·lt) → Counting s t (x + 1) y (count + 1)
     counts-first f =
         let one : sumSpread (drop x s) (drop y t) ≡ suc (sumSpread (drop (x + 1) s) (drop y t)) =
-        ap (λ l. sumSpread l (drop y t)) s-left
-        ∙ spread-first u' (drop (x + 1) s) (drop y t) (subst (λ l. T (inOrder l)) s-left (rest-strict x s strict-s)) (rest-strict y t strict-t) (ahead-rest (u' .pattern) t y f) in
+        ap (λ l. sumSpread l (drop y t)) (rest-next s x h)
+        ∙ spread-first u' (drop (x + 1) s) (drop y t) (next-strict s x h strict-s) (rest-strict y t strict-t) (ahead-rest (u' .pattern) t y f) in
         record { first = omega arith; second = j .second; spread-is = omega (arith, one, j .spread-is) }
 
   module _ (h : y < length t) where
-    t-left : drop y t ≡ v' ∷ drop (y + 1) t
-    t-left = drop-cons t y none h ∙ ap (λ (k : ℕ). v' ∷ drop k t) (sym (add-one y))
-
     pub counts-second : (x < length s → order (u' .pattern) (v' .pattern) ≡ Ordering·gt) → Counting s t x (y + 1) (count + 1)
     counts-second f =
         let one : sumSpread (drop x s) (drop y t) ≡ suc (sumSpread (drop x s) (drop (y + 1) t)) =
-        ap (sumSpread (drop x s)) t-left
-        ∙ spread-second (drop x s) v' (drop (y + 1) t) (rest-strict x s strict-s) (subst (λ l. T (inOrder l)) t-left (rest-strict y t strict-t))
+        ap (sumSpread (drop x s)) (rest-next t y h)
+        ∙ spread-second (drop x s) v' (drop (y + 1) t) (rest-strict x s strict-s) (next-strict t y h strict-t)
         (ahead-rest (v' .pattern) s x (λ k. order-back (u' .pattern) (v' .pattern) (f k))) in
         record { first = j .first; second = omega arith; spread-is = omega (arith, one, j .spread-is) }
 
     pub counts-both : x < length s → order (u' .pattern) (v' .pattern) ≡ Ordering·eq → Counting s t (x + 1) (y + 1) (count + 1)
     counts-both k e =
         let one : sumSpread (drop x s) (drop y t) ≡ suc (sumSpread (drop (x + 1) s) (drop (y + 1) t)) =
-        ap₂ sumSpread (s-left k) t-left
-        ∙ spread-both u' (drop (x + 1) s) v' (drop (y + 1) t) (subst (λ l. T (inOrder l)) (s-left k) (rest-strict x s strict-s)) (subst (λ l. T (inOrder l)) t-left (rest-strict y t strict-t)) e in
+        ap₂ sumSpread (rest-next s x k) (rest-next t y h)
+        ∙ spread-both u' (drop (x + 1) s) v' (drop (y + 1) t) (next-strict s x k strict-s) (next-strict t y h strict-t) e in
         record { first = omega arith; second = omega arith; spread-is = omega (arith, one, j .spread-is) }
