@@ -1,4 +1,4 @@
-/* The operations of Reeveboom in plain C (plain.h), written for speed, for x86-64.
+/* The operations of Reeveboom in plain C (plain.h), written for speed, for x86-64 and aarch64.
  *
  * A term is held as a key and a coefficient. The key has the total degree in its top byte and the exponents of a to g in the bytes below; h is what is missing to
  * the degree. So the order of terms is the order of keys, and the product of two patterns is the sum of their keys: no byte overflows, since degrees are
@@ -9,10 +9,10 @@
  */
 #include "plain.h"
 
-#include <emmintrin.h>
 #include <stdbool.h>
 #include <string.h>
 
+#include "lanes.h"
 #include "reeveboom.h"
 
 enum {
@@ -30,7 +30,6 @@ enum {
 #define HIGH_BITS (0x80 * EACH_BYTE)
 #define ONE_DEGREE (UINT64_C(1) << 56)
 #define NO_FAULT SIZE_MAX
-#define INLINE static inline __attribute__((always_inline))
 
 __extension__ typedef unsigned __int128 Wide;
 
@@ -312,9 +311,9 @@ INLINE int64_t number_at(const uint8_t *bytes, int v) { return (int16_t)(bytes[2
 
 /* Fills the tables of powers, for every variable up to its largest exponent. */
 static void raise_readings(Powers *p, const uint64_t *patterns, uint64_t terms, const uint8_t *readings, const uint8_t *tolerances) {
-    __m128i most = _mm_setzero_si128();
-    for (uint64_t i = 0; i < terms; i++) most = _mm_max_epu8(most, _mm_cvtsi64_si128((long long)patterns[i]));
-    uint64_t exponents = (uint64_t)_mm_cvtsi128_si64(most);
+    Lanes most = lanes_of(0);
+    for (uint64_t i = 0; i < terms; i++) most = largest_lanes(most, lanes_of(patterns[i]));
+    uint64_t exponents = word_of(most);
     p->used = 0;
     p->largest = 1;
     for (int v = 0; v < 8; v++) {
@@ -633,16 +632,15 @@ typedef struct {
 } Box;
 
 static void range_of(const uint64_t *keys, int terms, Range *range) {
-    __m128i low = _mm_set1_epi8(-1), high = _mm_setzero_si128();
+    Lanes low = lanes_of(UINT64_MAX), high = lanes_of(0);
     uint64_t h = 0;
     for (int i = 0; i < terms; i++) {
-        __m128i key = _mm_cvtsi64_si128((long long)keys[i]);
-        low = _mm_min_epu8(low, key);
-        high = _mm_max_epu8(high, key);
+        low = least_lanes(low, lanes_of(keys[i]));
+        high = largest_lanes(high, lanes_of(keys[i]));
         h |= power_of_h(keys[i]);
     }
-    _mm_storel_epi64((__m128i *)range->low, low);
-    _mm_storel_epi64((__m128i *)range->high, high);
+    store(range->low, word_of(low));
+    store(range->high, word_of(high));
     range->h = h != 0;
 }
 
@@ -677,14 +675,7 @@ static bool lay_out(Box *box, const Range *range) {
 
 /* The slots of some patterns, before the offset is taken off. Slots of products are sums of slots. */
 static void find_slots(const Box *box, const Sum *sum, int offset, int *slots) {
-    __m128i strides = _mm_loadu_si128((const __m128i *)box->strides);
-    for (int i = 0; i < sum->terms; i++) {
-        __m128i bytes = _mm_unpacklo_epi8(_mm_cvtsi64_si128((long long)sum->keys[i]), _mm_setzero_si128());
-        __m128i parts = _mm_madd_epi16(bytes, strides);
-        parts = _mm_add_epi32(parts, _mm_shuffle_epi32(parts, 0x4e));
-        parts = _mm_add_epi32(parts, _mm_shuffle_epi32(parts, 0xb1));
-        slots[i] = _mm_cvtsi128_si32(parts) - offset;
-    }
+    for (int i = 0; i < sum->terms; i++) slots[i] = strides_added(sum->keys[i], box->strides) - offset;
 }
 
 /* Slots are cleared when they are first needed, and after that by whoever empties them. */
@@ -716,10 +707,9 @@ static void fill(Dense *restrict d, const Sum *a, const int *restrict a_slots, c
 static bool empty(Dense *d, int top, Sum *to, int *to_slots) {
     int met = 0, terms = 0;
     for (int block = top & -16; block >= 0; block -= 16) {
-        __m128i *marks = (__m128i *)(d->marks + block);
-        unsigned mask = (unsigned)_mm_movemask_epi8(_mm_slli_epi16(_mm_loadu_si128(marks), 7));
+        unsigned mask = sixteen_marks(d->marks + block);
         if (mask == 0) continue;
-        _mm_storeu_si128(marks, _mm_setzero_si128());
+        memset(d->marks + block, 0, 16);
         do {
             int bit = 31 - __builtin_clz(mask), slot = block + bit;
             mask ^= 1u << bit;
@@ -856,23 +846,6 @@ static uint64_t write_sum(const Sum *sum, uint8_t *result) {
     return (uint64_t)(out - result);
 }
 
-/* Leaves a work area zero. A host lends the same areas again and again, so that most places are zero already; and to look at them costs less than to write them. */
-static void clear(void *area) {
-    enum { BLOCK = 1024 };
-    for (char *at = area, *end = at + 8 * REEVEBOOM_WORK_PLACES; at < end; at += BLOCK) {
-        __m128i a = _mm_setzero_si128(), b = a, c = a, d = a;
-        for (int i = 0; i < BLOCK; i += 64) {
-            const __m128i *line = (const __m128i *)(at + i);
-            a = _mm_or_si128(a, _mm_loadu_si128(line));
-            b = _mm_or_si128(b, _mm_loadu_si128(line + 1));
-            c = _mm_or_si128(c, _mm_loadu_si128(line + 2));
-            d = _mm_or_si128(d, _mm_loadu_si128(line + 3));
-        }
-        a = _mm_or_si128(_mm_or_si128(a, b), _mm_or_si128(c, d));
-        if (_mm_movemask_epi8(_mm_cmpeq_epi8(a, _mm_setzero_si128())) != 0xffff) memset(at, 0, BLOCK);
-    }
-}
-
 /* ---- Tables. */
 
 typedef struct {
@@ -980,8 +953,8 @@ uint64_t quick_simplify(const int64_t *table, size_t table_length,
         f.scratch.dense.clean = 0;
         number = simplify(&f, table, table_length / 3, result);
     }
-    clear(patterns);
-    clear(coefficients);
+    leave_zero((char *)patterns, 8 * REEVEBOOM_WORK_PLACES);
+    leave_zero((char *)coefficients, 8 * REEVEBOOM_WORK_PLACES);
     return number;
 }
 
@@ -1168,7 +1141,7 @@ uint64_t quick_substitute(const uint8_t *sum, size_t sum_length,
     c.coefficients = coefficients;
     c.scratch.dense.clean = 0;
     uint64_t number = substitute(&c, sum, sum_length, list, list_length, result);
-    clear(patterns);
-    clear(coefficients);
+    leave_zero((char *)patterns, 8 * REEVEBOOM_WORK_PLACES);
+    leave_zero((char *)coefficients, 8 * REEVEBOOM_WORK_PLACES);
     return number;
 }

@@ -1,7 +1,7 @@
--- A sum in the first places of two arrays: the one that an operation is given, its slope, which is formed in the same places, and a result that is written from there.
+-- A sum in the first places of two arrays: the one that an operation is given, the slope of one, which is formed in the same places, and a result that is written from there.
 use mathlib.Core.Path.{_≡_, sym, _∙_, ap, ap₂}
 use mathlib.Core.List.{List}
-use Prim.Native.Nat.{ℕ, _+_, _≤_, _<_}
+use Prim.Native.Nat.{ℕ, _+_, _≤_}
 use native.Mathlib.Omega.{arith}
 use lib.IntN.{ℤ}
 use lib.ListN.{length, take, length-map}
@@ -12,18 +12,19 @@ use Rattle.algebra.specs.Accepted.{Accepted}
 use Rattle.algebra.specs.Slope as algebra
 use Rattle.algebra.specs.Word.{terms, EachValid}
 use Rattle.algebra.specs.Held.{wordsOf, coefficientsOf, firstTerms}
-use Rattle.answers.specs.Answers.{Told.done, outcome}
+use Rattle.answers.specs.Answers.{Told, Told.done, Outcome, outcome}
 use Rattle.answers.specs.Areas.{written}
 use Rattle.answers.specs.Judge.{Judged.good}
 use Rattle.answers.proofs.Writes.{written-front}
 use Rattle.packed.specs.Packed.{packed, mostBytes}
 use Rattle.packed.specs.Result.{packedInto}
-use Rattle.packed.proofs.Results.{PackedSum, Whole, result-room, result-written}
+use Rattle.packed.proofs.Results.{PackedSum, Handed, Whole, result-room, result-written}
 use Rattle.sums.specs.Held.{HeldSum}
 use Rattle.sums.proofs.Holding.{accepted-holdable, spells, each-valid, holds-sum}
 use Rattle.weights.specs.Capped.{capped}
-use Rattle.weights.proofs.Weighing.{capped-light, capped-heavy}
-use Rattle.change.proofs.Sloped.{slope-accepted}
+use Rattle.weights.proofs.Weighing.{capped-light}
+use Rattle.change.specs.Slope.{judgeSlope, slope}
+use Rattle.change.proofs.Sloped.{slope-accepted, after-sum, Refuses.at-sum, refuses-slope}
 
 -- ---- An accepted sum stands in the first n places of two arrays.
 
@@ -79,26 +80,22 @@ given ws cs w = record {
   first = first-written ws cs (w .words-are) (w .coefficients-are) (w .many) (w .of-bytes .accepted);
 }
 
--- ---- Its slope.
+-- ---- What becomes of the slope: the fault of the packed sum that was met, or what is judged of the sum.
 
-module _ {bytes sp : List ℕ} {sc : List ℤ} {n : ℕ} (g : Given bytes sp sc n) (v w : ℕ) (weighed : w ≡ capped (weight (algebra.slope v (firstTerms n sp sc)))) where
-  weighs : weight (algebra.slope v (firstTerms n sp sc)) ≡ weight (algebra.slope v (g .sum))
-  weighs = ap (λ s. weight (algebra.slope v s)) (first-is (g .first))
+module _ (bytes : List ℕ) (v : ℕ) (area : List ℕ) (room : mostBytes variables ≤ length area) where
+  pub slope-handed : {t : Told} → Handed bytes t → outcome t area ≡ slope bytes v area
+  slope-handed h = ap (λ (t : Told). outcome t area) (h .says) ∙ sym (refuses-slope bytes v area (at-sum room (h .fault)))
 
-  pub slope-heavy : largestWeight < w → largestWeight < weight (algebra.slope v (g .sum))
-  slope-heavy h = omega (arith, capped-heavy w _ weighed h, weighs)
+  pub slope-given : {sp : List ℕ} {sc : List ℤ} {n : ℕ} → Given bytes sp sc n → {o : Outcome (List ℕ)} → o ≡ packedInto (judgeSlope v (firstTerms n sp sc)) area → o ≡ slope bytes v area
+  slope-given g e = e ∙ ap (λ (s : Sum). packedInto (judgeSlope v s) area) (first-is (g .first)) ∙ sym (after-sum bytes v area room (g .of-bytes))
 
-  module _ (h : w ≤ largestWeight) where
-    pub slope-held-light : weight (algebra.slope v (firstTerms n sp sc)) ≤ largestWeight
-    slope-held-light = omega (arith, capped-light w _ weighed h)
+-- ---- The slope of a sum, whose weight was found.
 
-    pub slope-light : weight (algebra.slope v (g .sum)) ≤ largestWeight
-    slope-light = omega (arith, slope-held-light, weighs)
+module _ (v : ℕ) (s : Sum) (accepted : Accepted variables s) (w : ℕ) (weighed : w ≡ capped (weight (algebra.slope v s))) (h : w ≤ largestWeight) where
+  pub slope-light : weight (algebra.slope v s) ≤ largestWeight
+  slope-light = omega (arith, capped-light w _ weighed h)
 
-    -- it takes the places of the sum
-    pub slope-stands : {patterns : List ℕ} {coefficients : List ℤ} {count : ℕ} → count ≡ length (algebra.slope v (firstTerms n sp sc))
-        → patterns ≡ written (wordsOf (algebra.slope v (firstTerms n sp sc))) sp → coefficients ≡ written (coefficientsOf (algebra.slope v (firstTerms n sp sc))) sc
-        → First (algebra.slope v (g .sum)) patterns coefficients count
-    slope-stands many words-are coefficients-are =
-        let is = first-is (g .first) in
-        first-written sp sc (rw is at words-are) (rw is at coefficients-are) (rw is at (sym many)) (slope-accepted v (g .sum) (g .of-bytes .accepted) slope-light)
+  -- it takes the places of the sum
+  pub slope-stands : (sp : List ℕ) (sc : List ℤ) {patterns : List ℕ} {coefficients : List ℤ} {count : ℕ} → count ≡ length (algebra.slope v s)
+      → patterns ≡ written (wordsOf (algebra.slope v s)) sp → coefficients ≡ written (coefficientsOf (algebra.slope v s)) sc → First (algebra.slope v s) patterns coefficients count
+  slope-stands sp sc many words-are coefficients-are = first-written sp sc words-are coefficients-are (sym many) (slope-accepted v s accepted slope-light)

@@ -39,12 +39,12 @@ slope-accepted v s a light = record {
 -- ---- Check by check, of the sum that is given.
 
 module _ (v : ℕ) (s : Sum) where
-  judge-variable : variables ≤ v → judgeSlope v s ≡ fails VARIABLE 0
+  pub judge-variable : variables ≤ v → judgeSlope v s ≡ fails VARIABLE 0
   unfolding judgeSlope holding
   judge-variable unknown = rw (le-ltb v variables unknown)
 
   module _ (known : v < variables) where
-    judge-weight : largestWeight < weight (algebra.slope v s) → judgeSlope v s ≡ fails WEIGHT 0
+    pub judge-weight : largestWeight < weight (algebra.slope v s) → judgeSlope v s ≡ fails WEIGHT 0
     unfolding judgeSlope holding
     judge-weight above = rw (lt-ltb v variables known, lt-leb (weight (algebra.slope v s)) largestWeight above)
 
@@ -53,9 +53,19 @@ module _ (v : ℕ) (s : Sum) where
       unfolding judgeSlope holding
       judge-spread above = rw (lt-ltb v variables known, le-leb (weight (algebra.slope v s)) largestWeight light, lt-leb (length (algebra.slope v s)) mostTerms above)
 
-      judge-good : length (algebra.slope v s) ≤ mostTerms → judgeSlope v s ≡ good (algebra.slope v s)
+      pub judge-good : length (algebra.slope v s) ≤ mostTerms → judgeSlope v s ≡ good (algebra.slope v s)
       unfolding judgeSlope holding
       judge-good few = rw (lt-ltb v variables known, le-leb (weight (algebra.slope v s)) largestWeight light, le-leb (length (algebra.slope v s)) mostTerms few)
+
+-- a refusal, in the result area
+pub judged-so : {refusal place : ℕ} (v : ℕ) (s : Sum) (area : List ℕ) → judgeSlope v s ≡ fails refusal place → packedInto (judgeSlope v s) area ≡ outcome (refused refusal place) area
+unfolding packedInto
+judged-so v s area e = ap (λ j. packedInto j area) e
+
+-- every check passes
+pub judged-good : (v : ℕ) (s : Sum) (area : List ℕ) → Accepted variables s → v < variables → weight (algebra.slope v s) ≤ largestWeight
+    → packedInto (judgeSlope v s) area ≡ packedInto (good (algebra.slope v s)) area
+judged-good v s area accepted known light = ap (λ j. packedInto j area) (judge-good v s known light (slope-accepted v s accepted light .few))
 
 -- ---- The outcomes.
 
@@ -97,16 +107,14 @@ module _ (bytes : List ℕ) (v : ℕ) (area : List ℕ) where
     at-fault a = with-room room ∙ sum-refused bytes (judgeSlope v) area a
 
     module _ {s : Sum} (p : PackedSum bytes s) where
-      after-sum : slope bytes v area ≡ packedInto (judgeSlope v s) area
+      pub after-sum : slope bytes v area ≡ packedInto (judgeSlope v s) area
       after-sum = with-room room ∙ sum-given bytes (judgeSlope v) area p
 
       refused-so : {refusal place : ℕ} → judgeSlope v s ≡ fails refusal place → slope bytes v area ≡ outcome (refused refusal place) area
-      unfolding packedInto
-      refused-so e = after-sum ∙ ap (λ j. packedInto j area) e
+      refused-so e = after-sum ∙ judged-so v s area e
 
-      -- every check passes
-      pub all-passed : v < variables → weight (algebra.slope v s) ≤ largestWeight → slope bytes v area ≡ packedInto (good (algebra.slope v s)) area
-      all-passed known light = after-sum ∙ ap (λ j. packedInto j area) (judge-good v s known light (slope-accepted v s (p .accepted) light .few))
+      all-passed : v < variables → weight (algebra.slope v s) ≤ largestWeight → slope bytes v area ≡ packedInto (good (algebra.slope v s)) area
+      all-passed known light = after-sum ∙ judged-good v s area (p .accepted) known light
 
   pub refuses-slope : {refusal p : ℕ} {area' : List ℕ} → Refuses refusal p area' → slope bytes v area ≡ outcome (refused refusal p) area'
   refuses-slope (no-room short) = without-room short

@@ -10,14 +10,14 @@ use numbers::Read;
 use packed::writer;
 ghost use mathlib.Core.Path.{_≡_};
 ghost use Prim.Native.Nat.{_≤_};
-ghost use lib.ListN.{length, drop};
+ghost use lib.ListN.{length, take, drop};
 ghost use Rattle.algebra.specs.Limits.{variables, workPlaces};
+ghost use Rattle.algebra.specs.Held.{firstTerms};
 ghost use Rattle.answers.specs.Answers.{told, outcome};
-ghost use Rattle.numbers.specs.Item.{Item.got};
 ghost use Rattle.packed.specs.Packed.{mostBytes};
-ghost use Rattle.packed.specs.Held.{readCount};
 ghost use Rattle.packed.specs.Result.{packedInto};
-ghost use Rattle.change.specs.Slope.{slope};
+ghost use Rattle.sums.specs.Held.{HeldSum};
+ghost use Rattle.change.specs.Slope.{judgeSlope, slope};
 ghost use Rattle.change.specs.Substitute.{judgeSubstitute, substitute};
 
 mod applying;
@@ -29,26 +29,14 @@ use lists::Listed;
 // As many pairs as there are variables.
 const MOST_PAIRS: usize = Pattern::VARIABLES as usize;
 
-// The slope of a packed sum of n terms, which begin at a place. They are read into two arrays of the caller's own, and the slope is formed there.
-fn slope_terms(
-    bytes: &[u8],
-    at: usize,
-    n: usize,
-    v: u64,
-    sp: &mut [u64],
-    sc: &mut [i64],
-    result: &mut [u8],
-) -> Answer
-    requires { ⌜ readCount (now bytes) 0 ≡ got n at ⌝ }
+// Writes the slope of the sum in the first n places of two arrays, which are the caller's own: it is formed there.
+fn write_slope(v: u64, n: usize, sp: &mut [u64], sc: &mut [i64], result: &mut [u8]) -> Answer
     requires { ⌜ n ≤ length (now sp) ⌝ }
     requires { ⌜ n ≤ length (now sc) ⌝ }
+    requires { ⌜ HeldSum (take n (now sp)) (take n (now sc)) ⌝ }
     requires { ⌜ mostBytes variables ≤ length (now result) ⌝ }
-    ensures { λ r. ⌜ outcome (told r) (now (result .exit)) ≡ slope (now (bytes .entry)) v (now (result .entry)) ⌝ }
+    ensures { λ r. ⌜ outcome (told r) (now (result .exit)) ≡ packedInto (judgeSlope v (firstTerms n (now (sp .entry)) (now (sc .entry)))) (now (result .entry)) ⌝ }
 {
-    let taken = packed::take_whole(bytes, at, n, sp, sc);
-    let Answer::Done(_) = taken else {
-        return taken;
-    };
     if v >= Pattern::VARIABLES {
         return Answer::Refused(Refusal::Variable, 0);
     }
@@ -79,11 +67,19 @@ pub fn slope(bytes: &[u8], v: u64, result: &mut [u8]) -> Answer
     if n <= packed::FEW_TERMS {
         let mut few = [0u64; packed::FEW_TERMS];
         let mut few_coefficients = [0i64; packed::FEW_TERMS];
-        return slope_terms(bytes, next, n, v, &mut few, &mut few_coefficients, result);
+        let taken = packed::take_whole(bytes, next, n, &mut few, &mut few_coefficients);
+        let Answer::Done(_) = taken else {
+            return taken;
+        };
+        return write_slope(v, n, &mut few, &mut few_coefficients, result);
     }
     let mut sp = [0u64; MOST_TERMS];
     let mut sc = [0i64; MOST_TERMS];
-    slope_terms(bytes, next, n, v, &mut sp, &mut sc, result)
+    let taken = packed::take_whole(bytes, next, n, &mut sp, &mut sc);
+    let Answer::Done(_) = taken else {
+        return taken;
+    };
+    write_slope(v, n, &mut sp, &mut sc, result)
 }
 
 // Writes the packed sum that the list makes of a packed sum. Of the work areas only this is said: their further places stay. The caller clears the rest.

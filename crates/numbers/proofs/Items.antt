@@ -167,7 +167,7 @@ pub alike-same : {A : Type 0} {x y : Item A} → Alike x y → x ≡ y
 alike-same both-cut = refl
 alike-same both-bad = refl
 
-pub no-value : (r : Read) → OneOf (1 ∷ 2 ∷ []) (tagOf the-type r) → (v next : ℕ) → itemOf r ≡ got v next → ⊥
+no-value : (r : Read) → OneOf (1 ∷ 2 ∷ []) (tagOf the-type r) → (v next : ℕ) → itemOf r ≡ got v next → ⊥
 no-value (Value x y) (inl k) v next e = omega arith
 no-value (Value x y) (inr k) v next e = omega arith
 no-value (Cut place) k v next e = let z : _≡_ {A = ℕ} 0 1 = cc in omega arith

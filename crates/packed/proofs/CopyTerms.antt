@@ -14,10 +14,9 @@ use Rattle.algebra.proofs.Patterns.Held.{held-length, held-append}
 use Rattle.algebra.proofs.Patterns.Word.{exponents-bytes}
 use Rattle.answers.specs.Areas.{written}
 use Rattle.answers.proofs.Writes.{written-next, written-front, written-kept}
-use Rattle.numbers.specs.Item.{Item, Item.got}
+use Rattle.numbers.specs.Item.{Item.got}
 use Rattle.numbers.specs.Number.{numberBytes, readNumber}
 use Rattle.numbers.specs.Code.{code, decode}
-use Rattle.numbers.proofs.Items.{got-value, got-next}
 use Rattle.numbers.proofs.Codes.{code-decode}
 use Rattle.packed.specs.Packed.{exponentBytes, termBytes, bytesOfTerms}
 use Rattle.packed.specs.Held.{Copies}
@@ -143,20 +142,20 @@ module _ {s : List ℕ} {at count : ℕ} {words₀ : List ℕ} {coefficients₀ 
   coefficients-kept =
       written-kept (c .cs) coefficients₀ count (c .coefficients-are) (omega (arith, c .coefficients-many, c .inside)) (omega (arith, c .same-coefficients, c .coefficients-room))
 
-  -- no value is answered
-  pub stops : (item : Item ℕ) → ((n next : ℕ) → item ≡ got n next → ⊥) → Copies count s at item words₀ coefficients₀ words coefficients
-  stops item without = record {
+  -- 0 is answered
+  pub stops : Copies count s at 0 words₀ coefficients₀ words coefficients
+  stops = record {
     words-kept = words-kept;
     coefficients-kept = coefficients-kept;
-    are = λ n next e good. absurd (without n next e);
+    are = λ after good. absurd (omega (arith, after));
   }
 
-  pub ended : count ≤ k → Copies count s at (got count place) words₀ coefficients₀ words coefficients
+  pub ended : count ≤ k → Copies count s at place words₀ coefficients₀ words coefficients
   unfolding terms
   ended h = record {
     words-kept = words-kept;
     coefficients-kept = coefficients-kept;
-    are = λ n next e good.
+    are = λ after good.
         let full : k ≡ count = omega (arith, c .inside) in
         let words-first = written-front (c .ws) words₀ (c .words-are) (c .words-many ∙ full) .0 in
         let coefficients-first = written-front (c .cs) coefficients₀ (c .coefficients-are) (c .coefficients-many ∙ full) .0 in
@@ -164,8 +163,6 @@ module _ {s : List ℕ} {at count : ℕ} {words₀ : List ℕ} {coefficients₀ 
         let all = terms-good [] (c .ws) (c .cs) (rw (words-first, coefficients-first) at good ∙ sym (c .words-many ∙ full)) in
         let there = c .stands (all .0) in
         let many : length sum ≡ count = held-length exponents (c .ws) (c .cs) (c .words-many ∙ sym (c .coefficients-many)) ∙ c .words-many ∙ full in
-        let read = terms-read s variables [] sum at (drop place s) (all .1) (there .bytes-are) in (
-          sym (got-value e),
-          rw (words-first, coefficients-first) (rw many at read ∙ ap (got sum) (sym (there .ends) ∙ got-next e)),
-        );
+        let read = terms-read s variables [] sum at (drop place s) (all .1) (there .bytes-are) in
+        rw (words-first, coefficients-first) (rw many at read ∙ ap (got sum) (sym (there .ends)));
   }

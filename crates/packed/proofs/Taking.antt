@@ -21,8 +21,9 @@ use Rattle.numbers.proofs.Read.{the-type}
 use Rattle.numbers.proofs.Items.{Alike, Alike.both-cut, Alike.both-bad, stopped, answered}
 use Rattle.packed.specs.ReadSum.{readTerms}
 use Rattle.packed.specs.Pack.{goodTerms}
-use Rattle.packed.specs.Held.{Holds, Copies, takenInto}
+use Rattle.packed.specs.Held.{Holds, Copies, Takes, takenInto}
 use Rattle.packed.proofs.Good.{each-valid, good-most, terms-good}
+use Rattle.packed.proofs.TakeSum.{terms-many}
 use Rattle.packed.proofs.Front.{front-length, front-words, front-coefficients}
 
 -- ---- Places that were written before are forgotten.
@@ -55,7 +56,7 @@ module _ (count : ℕ) {ws₀ : List ℕ} {cs₀ : List ℤ} {ws : List ℕ} {cs
 -- ---- `take`.
 
 -- what was copied before is forgotten
-pub taken-over : (count : ℕ) (all : Item Sum) (ws₀ : List ℕ) (cs₀ : List ℤ) {ws : List ℕ} {cs : List ℤ} → ((s : Sum) (next : ℕ) → all ≡ got s next → length s ≡ count)
+taken-over : (count : ℕ) (all : Item Sum) (ws₀ : List ℕ) (cs₀ : List ℤ) {ws : List ℕ} {cs : List ℤ} → ((s : Sum) (next : ℕ) → all ≡ got s next → length s ≡ count)
     → ws ≡ written (take count ws) ws₀ → cs ≡ written (take count cs) cs₀ → takenInto count all ws cs ≡ takenInto count all ws₀ cs₀
 unfolding takenInto
 taken-over count (got s next) ws₀ cs₀ many words coefficients =
@@ -63,21 +64,34 @@ taken-over count (got s next) ws₀ cs₀ many words coefficients =
 taken-over count (cut place) ws₀ cs₀ many words coefficients = rw (cleared-kept count ws₀ words 0, cleared-kept count cs₀ coefficients (pos 0))
 taken-over count (bad place) ws₀ cs₀ many words coefficients = rw (cleared-kept count ws₀ words 0, cleared-kept count cs₀ coefficients (pos 0))
 
--- all terms that were copied are good
-pub all-taken : {count : ℕ} {s : List ℕ} {at : ℕ} {ws₀ : List ℕ} {cs₀ : List ℤ} {ws : List ℕ} {cs : List ℤ} {r : Read} {n next : ℕ} → Copies count s at (itemOf r) ws₀ cs₀ ws cs → r ≡ Value n next
-    → count ≤ length ws → count ≤ length cs → count ≤ goodTerms [] (take count ws) (take count cs)
-    → (itemOf r, ws, cs) ≡ takenInto count (readTerms variables count [] s at) ws₀ cs₀
-unfolding takenInto
-all-taken {count} {s} {at} {ws₀} {cs₀} {ws} {cs} {r} {n} {next} copies is words coefficients good =
-    let long = length-take-le count ws words in
-    let every : goodTerms [] (take count ws) (take count cs) ≡ count = omega (arith, good-most [] (take count ws) (take count cs)) in
-    let valid = each-valid (take count ws) (terms-good [] (take count ws) (take count cs) (every ∙ sym long) .0) in
-    let are = copies .are n next (ap itemOf is) every in
-    let sum = firstTerms count ws cs in
-    let first : itemOf r ≡ got (length sum) next = ap itemOf is ∙ ap (λ (k : ℕ). got k next) (are .0 ∙ sym (front-length count ws cs words coefficients)) in
-    let words-are : ws ≡ written (wordsOf sum) ws₀ = copies .words-kept ∙ ap (λ l. written l ws₀) (sym (front-words count ws cs words coefficients valid)) in
-    let coefficients-are : cs ≡ written (coefficientsOf sum) cs₀ = copies .coefficients-kept ∙ ap (λ l. written l cs₀) (sym (front-coefficients count ws cs words coefficients)) in
-    (λ i. (first i, words-are i, coefficients-are i)) ∙ ap (λ item. takenInto count item ws₀ cs₀) (sym (are .1))
+-- what is read item by item is the same, whatever was taken before
+pub taken-again : {count : ℕ} {s : List ℕ} {at end : ℕ} {ws₀ : List ℕ} {cs₀ : List ℤ} {ws : List ℕ} {cs : List ℤ} → Takes count s at end ws₀ cs₀ ws cs
+    → takenInto count (readTerms variables count [] s at) ws cs ≡ takenInto count (readTerms variables count [] s at) ws₀ cs₀
+taken-again {count} {s} {at} {ws₀ = ws₀} {cs₀ = cs₀} t =
+    taken-over count (readTerms variables count [] s at) ws₀ cs₀ (λ sum next e. terms-many variables count [] sum s at next e) (t .words-kept) (t .coefficients-kept)
+
+-- ---- `take_good`.
+
+module _ {count : ℕ} {s : List ℕ} {at end : ℕ} {ws₀ : List ℕ} {cs₀ : List ℤ} {ws : List ℕ} {cs : List ℤ} (copies : Copies count s at end ws₀ cs₀ ws cs) where
+  pub not-good : Takes count s at 0 ws₀ cs₀ ws cs
+  not-good = record { words-kept = copies .words-kept; coefficients-kept = copies .coefficients-kept; are = λ after. absurd (omega (arith, after)) }
+
+  -- all terms that were copied are good
+  pub all-good : count ≤ length ws → count ≤ length cs → count ≤ goodTerms [] (take count ws) (take count cs) → Takes count s at end ws₀ cs₀ ws cs
+  unfolding takenInto
+  all-good words coefficients good = record {
+    words-kept = copies .words-kept;
+    coefficients-kept = copies .coefficients-kept;
+    are = λ after.
+        let long = length-take-le count ws words in
+        let every : goodTerms [] (take count ws) (take count cs) ≡ count = omega (arith, good-most [] (take count ws) (take count cs)) in
+        let valid = each-valid (take count ws) (terms-good [] (take count ws) (take count cs) (every ∙ sym long) .0) in
+        let sum = firstTerms count ws cs in
+        let first : got count end ≡ got (length sum) end = ap (λ (k : ℕ). got k end) (sym (front-length count ws cs words coefficients)) in
+        let words-are : ws ≡ written (wordsOf sum) ws₀ = copies .words-kept ∙ ap (λ l. written l ws₀) (sym (front-words count ws cs words coefficients valid)) in
+        let coefficients-are : cs ≡ written (coefficientsOf sum) cs₀ = copies .coefficients-kept ∙ ap (λ l. written l cs₀) (sym (front-coefficients count ws cs words coefficients)) in
+        (λ i. (first i, words-are i, coefficients-are i)) ∙ ap (λ item. takenInto count item ws₀ cs₀) (sym (copies .are after every));
+  }
 
 -- ---- What a caller of `take` knows.
 

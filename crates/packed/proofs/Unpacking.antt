@@ -26,12 +26,12 @@ use Rattle.numbers.specs.declared.Read.{Read}
 use Rattle.numbers.specs.declared.Read.the-variants.{Value}
 use Rattle.numbers.proofs.Items.{Alike, Alike.both-cut, Alike.both-bad, alike-then, then-got, provided-yes, provided-no}
 use Rattle.packed.specs.ReadSum.{readTerms, readSum, readWhole}
-use Rattle.packed.specs.Held.{readInto, readCount, readRest}
+use Rattle.packed.specs.Held.{readInto, readCount, readRest, Takes}
 use Rattle.packed.specs.Whole.{judged, fault}
 use Rattle.packed.specs.Result.{heldInto, wholeInto}
 use Rattle.packed.specs.Unpack.{unpack}
 use Rattle.packed.proofs.TakeSum.{sum-split, sum-terms, whole-split, whole-rest, terms-many, rest-many}
-use Rattle.packed.proofs.Taking.{ReadAt}
+use Rattle.packed.proofs.Taking.{ReadAt, taken-read}
 
 -- ---- What two arrays hold goes to two areas.
 
@@ -111,6 +111,11 @@ module _ (count : ℕ) (s : List ℕ) (at : ℕ) {ws₀ : List ℕ} {cs₀ : Lis
       let all = provided-yes end _ (leb (length s) end) (le→leb (length s) end h) in
       (λ i. outcome (done (sym all-many i)) (t .words-are i, t .coefficients-are i))
       ∙ ap (λ r. wholeInto count (judged SUM r) ws₀ cs₀) (sym (then-got _ (t .read) ∙ all))
+
+-- good terms that end with the bytes
+pub whole-good : {count : ℕ} {s : List ℕ} {at end : ℕ} {ws₀ : List ℕ} {cs₀ : List ℤ} {ws : List ℕ} {cs : List ℤ} → Takes count s at end ws₀ cs₀ ws cs → 0 < end → length s ≤ end
+    → outcome (done count) (ws, cs) ≡ wholeInto count (judged SUM (readRest variables count s at)) ws₀ cs₀
+whole-good {count} {s} {at} {end} {ws₀} {cs₀} t after h = whole-read count s at (taken-read (Value count end) count _ ws₀ cs₀ (t .are after) refl) h
 
 -- ---- What a caller of `take_whole` knows.
 

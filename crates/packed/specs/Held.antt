@@ -1,7 +1,7 @@
 -- What the code's readers answer, and leave in two areas.
 use mathlib.Core.Path.{_≡_}
 use mathlib.Core.List.{List, []}
-use Prim.Native.Nat.{ℕ}
+use Prim.Native.Nat.{ℕ, _<_}
 use lib.Dec.{leb}
 use lib.IntN.{ℤ, pos}
 use lib.ListN.{length, take}
@@ -45,9 +45,15 @@ takenInto count (got s next) ws cs = (got (length s) next, written (wordsOf s) w
 takenInto count (cut place) ws cs = (cut place, cleared 0 count ws, cleared (pos 0) count cs)
 takenInto count (bad place) ws cs = (bad place, cleared 0 count ws, cleared (pos 0) count cs)
 
--- terms were copied, not judged, into the first `count` places of two arrays that held ws₀ and cs₀. If they were, and all are good, they are the terms that are read there
-pub record Copies (count : ℕ) (s : List ℕ) (at : ℕ) (item : Item ℕ) (ws₀ : List ℕ) (cs₀ : List ℤ) (ws : List ℕ) (cs : List ℤ) : Type 0 where
+-- terms were copied, not judged, into the first `count` places of two arrays that held ws₀ and cs₀, and `end` is the place after them; or it is 0. If they were, and all are good, they are the
+-- terms that are read there
+pub record Copies (count : ℕ) (s : List ℕ) (at end : ℕ) (ws₀ : List ℕ) (cs₀ : List ℤ) (ws : List ℕ) (cs : List ℤ) : Type 0 where
   pub words-kept : ws ≡ written (take count ws) ws₀
   pub coefficients-kept : cs ≡ written (take count cs) cs₀
-  pub are : (n next : ℕ) → item ≡ got n next → goodTerms [] (take count ws) (take count cs) ≡ count
-      → (n ≡ count) × (readTerms variables count [] s at ≡ got (firstTerms count ws cs) next)
+  pub are : 0 < end → goodTerms [] (take count ws) (take count cs) ≡ count → readTerms variables count [] s at ≡ got (firstTerms count ws cs) end
+
+-- good terms were read into the first `count` places of two arrays that held ws₀ and cs₀, and `end` is the place after them; or it is 0, and only these places are other than before
+pub record Takes (count : ℕ) (s : List ℕ) (at end : ℕ) (ws₀ : List ℕ) (cs₀ : List ℤ) (ws : List ℕ) (cs : List ℤ) : Type 0 where
+  pub words-kept : ws ≡ written (take count ws) ws₀
+  pub coefficients-kept : cs ≡ written (take count cs) cs₀
+  pub are : 0 < end → (got count end, ws, cs) ≡ takenInto count (readTerms variables count [] s at) ws₀ cs₀

@@ -25,7 +25,7 @@ ghost use Rattle.numbers.specs.Number.{readNumber};
 ghost use Rattle.numbers.specs.Read.{itemOf};
 ghost use Rattle.packed.specs.ReadSum.{readCoefficient, readExponents, readTerms, readSum};
 ghost use Rattle.algebra.specs.Held.{wordFor};
-ghost use Rattle.packed.specs.Held.{readCount, readRest, Holds, Copies, takenInto, readInto};
+ghost use Rattle.packed.specs.Held.{readCount, readRest, Holds, Copies, Takes, takenInto, readInto};
 ghost use Rattle.packed.specs.Whole.{judged, fault};
 ghost use Rattle.packed.specs.Result.{heldInto, wholeInto};
 ghost use Rattle.packed.specs.Unpack.{unpack};
@@ -197,28 +197,28 @@ fn word_at(bytes: &[u8], at: usize) -> u64
     word
 }
 
-// `count` terms as they stand, not judged: a code, and a byte for each exponent, as all good terms have it. Where they are not like that, no value is answered, and nothing
-// is said of the places.
+// `count` terms as they stand, not judged: a code, and a byte for each exponent, as all good terms have it. It answers the place after them; 0 where they are not like that, and
+// then nothing is said of the places.
 fn copy_terms(
     bytes: &[u8],
     at: usize,
     count: usize,
     patterns: &mut [u64],
     coefficients: &mut [i64],
-) -> Read
+) -> usize
     requires { ⌜ count ≤ length (now patterns) ⌝ }
     requires { ⌜ count ≤ length (now coefficients) ⌝ }
-    ensures { λ r. ⌜ Copies count (now (bytes .entry)) at (itemOf r) (now (patterns .entry)) (now (coefficients .entry)) (now (patterns .exit)) (now (coefficients .exit)) ⌝ }
+    ensures { λ r. ⌜ Copies count (now (bytes .entry)) at r (now (patterns .entry)) (now (coefficients .entry)) (now (patterns .exit)) (now (coefficients .exit)) ⌝ }
 {
     let mut place = at;
     let mut k = 0;
     while k < count {
         let item = read_short(bytes, place);
         let Read::Value(c, next) = item else {
-            return item;
+            return 0;
         };
         if bytes.len() - next < Pattern::VARIABLES as usize {
-            return Read::Cut(next);
+            return 0;
         }
         let coefficient = numbers::decode(c);
         patterns[k] = word_at(bytes, next);
@@ -226,11 +226,30 @@ fn copy_terms(
         place = next + Pattern::VARIABLES as usize;
         k += 1;
     }
-    Read::Value(count as u64, place)
+    place
 }
 
-// `count` terms at a place of the bytes, into the first places of two arrays. They are copied, and then judged as packing judges them. Only where that fails they are
-// read item by item, which finds the fault.
+// The same for good terms only: they are copied, and then judged as packing judges them. Where this answers 0 they have to be read item by item, which finds the fault.
+// The answer is a number: an enum would go through memory, which takes longer than to read a term.
+fn take_good(
+    bytes: &[u8],
+    at: usize,
+    count: usize,
+    patterns: &mut [u64],
+    coefficients: &mut [i64],
+) -> usize
+    requires { ⌜ count ≤ length (now patterns) ⌝ }
+    requires { ⌜ count ≤ length (now coefficients) ⌝ }
+    ensures { λ r. ⌜ Takes count (now (bytes .entry)) at r (now (patterns .entry)) (now (coefficients .entry)) (now (patterns .exit)) (now (coefficients .exit)) ⌝ }
+{
+    let end = copy_terms(bytes, at, count, patterns, coefficients);
+    if good_terms(patterns, coefficients, count) < count {
+        return 0;
+    }
+    end
+}
+
+// `count` terms at a place of the bytes, into the first places of two arrays.
 fn take(
     bytes: &[u8],
     at: usize,
@@ -242,14 +261,11 @@ fn take(
     requires { ⌜ count ≤ length (now coefficients) ⌝ }
     ensures { λ r. ⌜ (itemOf r, now (patterns .exit), now (coefficients .exit)) ≡ takenInto count (readTerms variables count [] (now (bytes .entry)) at) (now (patterns .entry)) (now (coefficients .entry)) ⌝ }
 {
-    let copied = copy_terms(bytes, at, count, patterns, coefficients);
-    let Read::Value(_, _) = copied else {
-        return take_each(bytes, at, count, patterns, coefficients);
-    };
-    if good_terms(patterns, coefficients, count) < count {
+    let end = take_good(bytes, at, count, patterns, coefficients);
+    if end == 0 {
         return take_each(bytes, at, count, patterns, coefficients);
     }
-    copied
+    Read::Value(count as u64, end)
 }
 
 // The number of terms of a packed sum at a place of the bytes, judged.
@@ -313,7 +329,13 @@ pub fn take_whole(
     requires { ⌜ count ≤ length (now coefficients) ⌝ }
     ensures { λ r. ⌜ outcome (told r) (now (patterns .exit), now (coefficients .exit)) ≡ wholeInto count (judged SUM (readRest variables count (now (bytes .entry)) at)) (now (patterns .entry)) (now (coefficients .entry)) ⌝ }
 {
-    let item = take(bytes, at, count, patterns, coefficients);
+    let good = take_good(bytes, at, count, patterns, coefficients);
+    if good > 0 {
+        if good == bytes.len() {
+            return Answer::Done(count);
+        }
+    }
+    let item = take_each(bytes, at, count, patterns, coefficients);
     let Read::Value(_, end) = item else {
         return refused(item);
     };

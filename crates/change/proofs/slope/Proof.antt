@@ -1,23 +1,42 @@
 -- `slope` meets its contract: ROOM, the count, and then the terms, few of them in small arrays.
-use mathlib.Core.Path.{_≡_, sym, _∙_, ap}
+use mathlib.Core.Path.{_≡_, sym}
 use native.Mathlib.Omega.{arith}
-use Rattle.answers.specs.Answers.{Told, outcome}
 use Rattle.numbers.specs.Item.{Item.got}
 use Rattle.numbers.proofs.Items.{number-answered}
 use Rattle.packed.specs.Held.{readCount}
 use Rattle.packed.proofs.TakeSum.{count-few}
-use Rattle.packed.proofs.Results.{count-refused}
-use Rattle.change.proofs.Sloped.{Refuses.no-room, Refuses.at-sum, refuses-slope}
+use Rattle.packed.proofs.Results.{count-refused, rest-refused, rest-taken}
+use Rattle.change.proofs.Sloped.{Refuses.no-room, refuses-slope}
+use Rattle.change.proofs.Given.{Given, given, first-held, slope-handed, slope-given}
 use borrow.Author.Needs.{needs}
 use Rattle.change.proofs.slope.Statement.{statement}
 use Rattle.change.proofs.slope.Tie as tie
 
-returns : tie.Need-returns
-returns c = sym (refuses-slope _ _ _ (no-room (c .if1 .taken)))
-
 -- the count that was read
 counted : (k : tie.After-known-told) → readCount (k .before .before .before .before .before .before .before .args .bytes .now) 0 ≡ got (k .before .first .given .0 .0) (k .before .first .given .0 .1 .0)
 counted k = let r = k .before .before .before .read-count in number-answered (r .result) (k .before .first .given .1) (r .ensures)
+
+-- the sum that was given, in small arrays and in large ones
+few : (d : tie.After-enum-told)
+    → let r = d .before .before .before .before .take-whole .last in
+    let k = d .before .before .before .before .before .before .before .before in
+    Given (k .before .before .before .before .before .before .before .args .bytes .now) (r .1 .1 .1 .0) (r .1 .1 .1 .1 .0) (k .before .first .given .0 .0)
+few d =
+    let r = d .before .before .before .before .take-whole in
+    let k = d .before .before .before .before .before .before .before .before in
+    given _ _ (rest-taken _ (counted k) _ _ (r .result) (r .ensures) (λ i. k .before .before .before .before .before .before .shared-slice-known .given i .fits) (d .before .match2 .keys1))
+
+many : (d : tie.After-enum-told3)
+    → let r = d .before .before .before .before .take-whole2 .last in
+    let k = d .before .before .before .before .before .before .before .before in
+    Given (k .before .before .before .before .before .before .before .args .bytes .now) (r .1 .1 .1 .0) (r .1 .1 .1 .1 .0) (k .before .first .given .0 .0)
+many d =
+    let r = d .before .before .before .before .take-whole2 in
+    let k = d .before .before .before .before .before .before .before .before in
+    given _ _ (rest-taken _ (counted k) _ _ (r .result) (r .ensures) (λ i. k .before .before .before .before .before .before .shared-slice-known .given i .fits) (d .before .match3 .keys1))
+
+returns : tie.Need-returns
+returns c = sym (refuses-slope _ _ _ (no-room (c .if1 .taken)))
 
 read-count-requires : tie.Need-read-count-requires
 read-count-requires c κs = search needs
@@ -29,40 +48,83 @@ refused-requires : tie.Need-refused-requires
 refused-requires c κs = search needs
 
 returns-2 : tie.Need-returns-2
-returns-2 c =
-    let r = c .before .before .read-count in
-    let handed = count-refused _ (r .result) (c .before .match .keys2) (r .ensures) (c .refused .ensures) in
-    ap (λ (t : Told). outcome t (c .before .before .before .before .before .before .args .result .now)) (handed .says) ∙ sym (refuses-slope _ _ _ (at-sum (c .before .before .before .if1 .left) (handed .fault)))
+returns-2 c = let r = c .before .before .read-count in slope-handed _ _ _ (c .before .before .before .if1 .left) (count-refused _ (r .result) (c .before .match .keys2) (r .ensures) (c .refused .ensures))
 
-slice-aggregate-slope-terms : tie.Need-slice-aggregate-slope-terms
-slice-aggregate-slope-terms c = search needs
+slice-aggregate-take-whole : tie.Need-slice-aggregate-take-whole
+slice-aggregate-take-whole c = search needs
 
-slice-aggregate-slope-terms-2 : tie.Need-slice-aggregate-slope-terms-2
-slice-aggregate-slope-terms-2 c = search needs
+slice-aggregate-take-whole-2 : tie.Need-slice-aggregate-take-whole-2
+slice-aggregate-take-whole-2 c = search needs
 
-slope-terms-requires : tie.Need-slope-terms-requires
-slope-terms-requires c κs = let few = c .before .before .before .if2 .taken in (counted (c .before .before .before .before), (omega arith, (omega arith, c .before .before .before .before .before .before .before .before .if1 .left)))
+take-whole-requires : tie.Need-take-whole-requires
+take-whole-requires c κs = search needs
+
+enum-told : tie.Need-enum-told
+enum-told c = search needs
+
+enum-told-2 : tie.Need-enum-told-2
+enum-told-2 c = search needs
+
+returns-3 : tie.Need-returns-3
+returns-3 c =
+    let r = c .before .before .before .before .take-whole in
+    let k = c .before .before .before .before .before .before .before .before in
+    slope-handed _ _ _ (k .before .before .before .before .if1 .left) (rest-refused _ (counted k) _ _ (r .result) (r .ensures) (c .before .match2 .keys2))
+
+slice-aggregate-write-slope : tie.Need-slice-aggregate-write-slope
+slice-aggregate-write-slope c = search needs
+
+slice-aggregate-write-slope-2 : tie.Need-slice-aggregate-write-slope-2
+slice-aggregate-write-slope-2 c = search needs
+
+write-slope-requires : tie.Need-write-slope-requires
+write-slope-requires c κs =
+    let f = few (c .before .before .before) .first in
+    (f .words-room, (f .coefficients-room, (first-held f, c .before .before .before .before .before .before .before .before .before .before .before .before .before .before .before .if1 .left)))
 
 same-length : tie.Need-same-length
 same-length c = search needs
 
-returns-3 : tie.Need-returns-3
-returns-3 c = search needs
+returns-4 : tie.Need-returns-4
+returns-4 c = slope-given _ _ _ (c .before .before .before .before .before .before .before .before .before .before .before .before .before .before .before .before .before .before .before .before .if1 .left) (few (c .before .before .before .before .before .before .before .before)) (c .before .before .before .before .write-slope .ensures)
 
-slice-aggregate-slope-terms-3 : tie.Need-slice-aggregate-slope-terms-3
-slice-aggregate-slope-terms-3 c = search needs
+slice-aggregate-take-whole-3 : tie.Need-slice-aggregate-take-whole-3
+slice-aggregate-take-whole-3 c = search needs
 
-slice-aggregate-slope-terms-4 : tie.Need-slice-aggregate-slope-terms-4
-slice-aggregate-slope-terms-4 c = search needs
+slice-aggregate-take-whole-4 : tie.Need-slice-aggregate-take-whole-4
+slice-aggregate-take-whole-4 c = search needs
 
-slope-terms-requires-2 : tie.Need-slope-terms-requires-2
-slope-terms-requires-2 c κs = let few = count-few _ _ (counted (c .before .before .before .before)) in (counted (c .before .before .before .before), (omega arith, (omega arith, c .before .before .before .before .before .before .before .before .if1 .left)))
+take-whole-requires-2 : tie.Need-take-whole-requires-2
+take-whole-requires-2 c κs = let n = count-few _ _ (counted (c .before .before .before)) in (omega arith, omega arith)
+
+enum-told-3 : tie.Need-enum-told-3
+enum-told-3 c = search needs
+
+enum-told-4 : tie.Need-enum-told-4
+enum-told-4 c = search needs
+
+returns-5 : tie.Need-returns-5
+returns-5 c =
+    let r = c .before .before .before .before .take-whole2 in
+    let k = c .before .before .before .before .before .before .before .before in
+    slope-handed _ _ _ (k .before .before .before .before .if1 .left) (rest-refused _ (counted k) _ _ (r .result) (r .ensures) (c .before .match3 .keys2))
+
+slice-aggregate-write-slope-3 : tie.Need-slice-aggregate-write-slope-3
+slice-aggregate-write-slope-3 c = search needs
+
+slice-aggregate-write-slope-4 : tie.Need-slice-aggregate-write-slope-4
+slice-aggregate-write-slope-4 c = search needs
+
+write-slope-requires-2 : tie.Need-write-slope-requires-2
+write-slope-requires-2 c κs =
+    let f = many (c .before .before .before) .first in
+    (f .words-room, (f .coefficients-room, (first-held f, c .before .before .before .before .before .before .before .before .before .before .before .before .before .before .before .if1 .left)))
 
 same-length-2 : tie.Need-same-length-2
 same-length-2 c = search needs
 
-returns-4 : tie.Need-returns-4
-returns-4 c = search needs
+returns-6 : tie.Need-returns-6
+returns-6 c = slope-given _ _ _ (c .before .before .before .before .before .before .before .before .before .before .before .before .before .before .before .before .before .before .before .before .if1 .left) (many (c .before .before .before .before .before .before .before .before)) (c .before .before .before .before .write-slope2 .ensures)
 
 pub slope-spec : {M : Type 1} → statement M
 slope-spec =
@@ -73,13 +135,25 @@ slope-spec =
     enum-known-first
     refused-requires
     returns-2
-    slice-aggregate-slope-terms
-    slice-aggregate-slope-terms-2
-    slope-terms-requires
-    same-length
+    slice-aggregate-take-whole
+    slice-aggregate-take-whole-2
+    take-whole-requires
+    enum-told
+    enum-told-2
     returns-3
-    slice-aggregate-slope-terms-3
-    slice-aggregate-slope-terms-4
-    slope-terms-requires-2
+    slice-aggregate-write-slope
+    slice-aggregate-write-slope-2
+    write-slope-requires
+    same-length
+    returns-4
+    slice-aggregate-take-whole-3
+    slice-aggregate-take-whole-4
+    take-whole-requires-2
+    enum-told-3
+    enum-told-4
+    returns-5
+    slice-aggregate-write-slope-3
+    slice-aggregate-write-slope-4
+    write-slope-requires-2
     same-length-2
-    returns-4)
+    returns-6)

@@ -1,13 +1,13 @@
 -- `copy_terms` meets its contract: the loop keeps `Copying`.
 use mathlib.Core.Path.{_≡_}
-use Prim.Native.Nat.{ℕ, _+_, _-_, _≤_}
+use Prim.Native.Nat.{_+_, _-_, _≤_}
 use native.Mathlib.Omega.{arith}
 use borrow.Author.Needs.{needs}
 use lib.ListN.{length}
 use Rattle.algebra.specs.Limits.{variables}
 use Rattle.numbers.specs.Item.{Item.got}
 use Rattle.numbers.specs.Number.{readNumber}
-use Rattle.numbers.proofs.Items.{no-value, number-answered}
+use Rattle.numbers.proofs.Items.{number-answered}
 use Rattle.numbers.proofs.Numbers.{number-inside}
 use Rattle.packed.proofs.CopyTerms.{Copying, start, again, stops, ended}
 use Rattle.packed.proofs.ReadItems.{number-is}
@@ -47,7 +47,7 @@ same-length-2 : tie.Need-same-length-2 Inv-loop μ-loop
 same-length-2 c = search needs
 
 returns : tie.Need-returns Inv-loop μ-loop
-returns c = let r = c .before .read-short in stops (c .before .before .before .loop .inv) _ (no-value (r .result) (c .match .keys2))
+returns c = stops (c .before .before .before .loop .inv)
 
 sub-if1 : tie.Need-sub-if1 Inv-loop μ-loop
 sub-if1 c = inside c
@@ -59,7 +59,7 @@ same-length-4 : tie.Need-same-length-4 Inv-loop μ-loop
 same-length-4 c = search needs
 
 returns-2 : tie.Need-returns-2 Inv-loop μ-loop
-returns-2 c = stops (c .before .before .before .before .before .before .loop .inv) _ (λ n next e. let z : _≡_ {A = ℕ} 0 1 = cc in omega arith)
+returns-2 c = stops (c .before .before .before .before .before .before .loop .inv)
 
 decode-requires : tie.Need-decode-requires Inv-loop μ-loop
 decode-requires c κs = search needs
