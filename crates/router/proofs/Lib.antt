@@ -10,6 +10,7 @@ pub mod Tabling
 pub mod TermParts
 pub mod SumParts
 pub mod Estimating
+pub mod Handing
 pub mod Answering
 pub mod ForHost
 pub mod Answered

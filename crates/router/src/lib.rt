@@ -13,8 +13,6 @@ ghost use Rattle.algebra.specs.Word.{terms};
 ghost use Rattle.answers.specs.Answers.{told, outcome};
 ghost use Rattle.answers.specs.Areas.{written};
 ghost use Rattle.answers.specs.Host.{hosted};
-ghost use Rattle.numbers.specs.Item.{Item.got};
-ghost use Rattle.packed.specs.Held.{readCount};
 ghost use Rattle.router.specs.Readings.{beforeNegative, measured};
 ghost use Rattle.router.specs.Estimate.{judgeRange, judgeTerms, answerBytes, answerOf, answerInto, estimate, hostUnit};
 ghost use Rattle.router.specs.Found.{foundOf};
@@ -113,36 +111,6 @@ fn estimate_terms(
     Answer::Done(ANSWER_BYTES)
 }
 
-// The estimate of the packed sum whose `count` terms stand after its count; they go through two arrays of the caller's own.
-fn estimate_rest(
-    sum: &[u8],
-    at: usize,
-    count: usize,
-    readings: &[u8],
-    tolerances: &[u8],
-    patterns: &mut [u64],
-    coefficients: &mut [i64],
-    answer: &mut [u8],
-) -> Answer
-    requires { ⌜ readCount (now sum) 0 ≡ got count at ⌝ }
-    requires { ⌜ count ≤ length (now patterns) ⌝ }
-    requires { ⌜ count ≤ length (now coefficients) ⌝ }
-    requires { ⌜ answerBytes ≤ length (now answer) ⌝ }
-    ensures { λ r. ⌜ outcome (told r) (now (answer .exit)) ≡ estimate (now (sum .entry)) (now (readings .entry)) (now (tolerances .entry)) (now (answer .entry)) ⌝ }
-{
-    let taken = packed::take_whole(sum, at, count, patterns, coefficients);
-    let Answer::Done(_) = taken else {
-        return taken;
-    };
-    estimate_terms(
-        &patterns[0..count],
-        &coefficients[0..count],
-        readings,
-        tolerances,
-        answer,
-    )
-}
-
 // The estimate of a packed sum at the readings, and its margin. Few terms go through small arrays, as in unpacking.
 pub fn estimate(sum: &[u8], readings: &[u8], tolerances: &[u8], answer: &mut [u8]) -> Answer
     ensures { λ r. ⌜ outcome (told r) (now (answer .exit)) ≡ estimate (now (sum .entry)) (now (readings .entry)) (now (tolerances .entry)) (now (answer .entry)) ⌝ }
@@ -156,31 +124,21 @@ pub fn estimate(sum: &[u8], readings: &[u8], tolerances: &[u8], answer: &mut [u8
     };
     let n = number as usize;
     if n <= packed::FEW_TERMS {
-        let mut patterns = [0u64; packed::FEW_TERMS];
-        let mut coefficients = [0i64; packed::FEW_TERMS];
-        return estimate_rest(
-            sum,
-            next,
-            n,
-            readings,
-            tolerances,
-            &mut patterns,
-            &mut coefficients,
-            answer,
-        );
+        let mut fp = [0u64; packed::FEW_TERMS];
+        let mut fc = [0i64; packed::FEW_TERMS];
+        let taken = packed::take_whole(sum, next, n, &mut fp, &mut fc);
+        let Answer::Done(_) = taken else {
+            return taken;
+        };
+        return estimate_terms(&fp[0..n], &fc[0..n], readings, tolerances, answer);
     }
-    let mut patterns = [0u64; MOST_TERMS];
-    let mut coefficients = [0i64; MOST_TERMS];
-    estimate_rest(
-        sum,
-        next,
-        n,
-        readings,
-        tolerances,
-        &mut patterns,
-        &mut coefficients,
-        answer,
-    )
+    let mut sp = [0u64; MOST_TERMS];
+    let mut sc = [0i64; MOST_TERMS];
+    let taken = packed::take_whole(sum, next, n, &mut sp, &mut sc);
+    let Answer::Done(_) = taken else {
+        return taken;
+    };
+    estimate_terms(&sp[0..n], &sc[0..n], readings, tolerances, answer)
 }
 
 // The same for a C host: 16 if it is done, else refusal × 65,536 + place.

@@ -6,7 +6,7 @@ use native.Mathlib.Omega.{arith}
 use native.Mathlib.Numerals.{add-one}
 use lib.IntN.{ℤ}
 use lib.ListN.{length, getD, take, drop, set, length-set, length-drop, length-append, length-map}
-use lib.Seq.{length-take-le, take-suc, take-suc-set, drop-set-lt, getD-drop}
+use lib.Seq.{length-take-le, take-add, take-suc, take-suc-set, drop-set-lt, getD-drop}
 use Rattle.algebra.specs.Sum.{Term, Sum}
 use Rattle.algebra.specs.Held.{wordFor}
 use Rattle.sums.specs.Rows.{closed, Gapped, Stands}
@@ -73,6 +73,12 @@ module _ {A : Type 0} {area₀ : List A} {from to end : ℕ} {area : List A} {i 
   ended h =
       let at-end : k ≡ end = omega (arith, c .inside) in
       (omega (arith, c .place, c .begun), c .so-far ∙ ap (λ (n : ℕ). closed from to n area₀) at-end)
+
+-- without a gap everything stands already
+pub no-gap : {A : Type 0} (area : List A) {from to end : ℕ} → from ≡ to → to ≤ end → take end area ≡ closed from to end area
+no-gap area {from} {to} {end} none inside =
+    let all : to + (end - to) ≡ end = omega arith in
+    ap (λ (n : ℕ). take n area) (sym all) ∙ take-add to (end - to) area ∙ ap (λ (n : ℕ). take n area ++ take (end - to) (drop to area)) (sym none)
 
 -- a sum with a gap in it stands in the first places once the gap is closed
 pub gap-closed : {s : Sum} {ws : List ℕ} {cs : List ℤ} {from to end : ℕ} → Gapped s ws cs from to end → end ≤ length ws → {n : ℕ} {ws' : List ℕ} {cs' : List ℤ} → n ≡ from + (end - to)

@@ -1,9 +1,9 @@
--- What the loop of `power` keeps: the k-th power stands in the arrays, and no spread on the way was above 128.
+-- What the loop of `repeated` keeps: the k-th power stands in the arrays, and no spread on the way was above 128.
 use mathlib.Core.Path.{_≡_, refl, sym, _∙_, ap}
 use mathlib.Core.List.{List, [], _∷_}
 use Prim.Native.Nat.{ℕ, zero, suc, _+_, _*_, _-_, _^_, max, _≤_, _<_}
 use native.Mathlib.Omega.{arith}
-use native.Mathlib.Nat.{add-zero, le-refl, le-trans, le-max-left, le-max-right, max-le, mul-le-mul-left, mul-le-mul-right, pow-suc, pow-le-pow-right}
+use native.Mathlib.Nat.{add-zero, le-refl, le-trans, le-max-left, le-max-right, max-le, mul-le-mul-left, mul-le-mul-right, pow-zero, pow-suc, pow-le-pow-right}
 use native.Mathlib.Numerals.{add-one}
 use lib.IntN.{ℤ, pos}
 use lib.ListN.{length, take}
@@ -25,7 +25,7 @@ use Rattle.sums.proofs.Holding.{holdable}
 use Rattle.sums.proofs.Forming.{within-yes}
 use Rattle.sums.proofs.Answering.{given, refused, over-into}
 use Rattle.sums.proofs.Fronts.{Front, front-written, front-is}
-use Rattle.sums.proofs.Multiplying.{Factors, product-holdable}
+use Rattle.sums.proofs.Multiplying.{Factors, product-holdable, product-turned}
 
 -- ---- Steps of the definitions.
 
@@ -48,13 +48,40 @@ module _ (n : ℕ) (s : Sum) where
   pub spread-rises : (k e : ℕ) → 0 < k → k ≤ e → powerSpread n s k ≤ powerSpread n s e
   spread-rises k e h more = let all : k + (e - k) ≡ e = omega arith in rw all at (spread-more k h (e - k))
 
--- ---- Exponent 0.
+-- ---- Weights.
+
+-- one power more weighs no more than the last one
+pub heavier : (w m k e : ℕ) → m ≤ w ^ k → k < e → w ^ e ≤ largestWeight → m * w ≤ largestWeight
+heavier zero m k e h more light = omega arith
+heavier (suc w) m k e h more light =
+    let next : suc w ^ k * suc w ≤ suc w ^ e = rw (← pow-suc (suc w) k) (pow-le-pow-right (omega arith) more) in
+    le-trans (mul-le-mul-right (suc w) h) (le-trans next light)
+
+-- ---- Exponents 0 and 2.
 
 pub power-none : (s : Sum) (e : ℕ) → e ≡ 0 → formed (integer variables (pos 1)) ≡ powerOf s e
 unfolding powerOf power powerSpread
 power-none s e none = rw none (ap formed (unit-integer variables) ∙ sym (within-yes 0 (unit variables) (omega arith)))
 
+pub power-two : (s : Sum) (e : ℕ) → e ≡ 2 → productOf s s ≡ powerOf s e
+unfolding powerOf productOf power powerSpread
+power-two s e two = let no-less : productSpread s s ≡ max 0 (productSpread s s) = omega arith in rw two (ap (λ (m : ℕ). within m (s ⊗ s)) no-less)
+
+-- the square of a sum that can be raised to it
+pub square-light : (w e : ℕ) → e ≡ 2 → w ^ e ≤ largestWeight → w * w ≤ largestWeight
+square-light w e two light =
+    let once : 1 * w ≡ w = omega arith in
+    let first : w ^ 1 ≡ w = pow-suc w 0 ∙ ap (λ (m : ℕ). m * w) (pow-zero w) ∙ once in
+    heavier w w 1 e (omega (arith, first)) (omega arith) light
+
 -- ---- The loop.
+
+-- the arrays that each product works in
+pub record Lent (gr : List ℕ) (gc : List ℤ) (sr tr : List ℕ) : Type 0 where
+  pub running-words : mostTerms + mostTerms ≡ length gr
+  pub running-coefficients : mostTerms + mostTerms ≡ length gc
+  pub first-ranks : mostTerms ≡ length sr
+  pub second-ranks : mostTerms ≡ length tr
 
 pub record Raising (sp : List ℕ) (sc : List ℤ) (e : ℕ) (own-patterns : List ℕ) (own-coefficients : List ℤ) (next-patterns : List ℕ) (next-coefficients : List ℤ) (n k : ℕ) : Type 0 where
   pub base : Held sp sc
@@ -83,13 +110,6 @@ start next-patterns next-coefficients base low light some copied next-words-room
   next-coefficients-room = next-coefficients-room;
 }
 
--- one power more weighs no more than the last one
-pub heavier : (w m k e : ℕ) → m ≤ w ^ k → k < e → w ^ e ≤ largestWeight → m * w ≤ largestWeight
-heavier zero m k e h more light = omega arith
-heavier (suc w) m k e h more light =
-    let next : suc w ^ k * suc w ≤ suc w ^ e = rw (← pow-suc (suc w) k) (pow-le-pow-right (omega arith) more) in
-    le-trans (mul-le-mul-right (suc w) h) (le-trans next light)
-
 module _ {sp : List ℕ} {sc : List ℤ} {e : ℕ} {own-patterns : List ℕ} {own-coefficients : List ℤ} {next-patterns : List ℕ} {next-coefficients : List ℤ} {n k : ℕ}
     (r : Raising sp sc e own-patterns own-coefficients next-patterns next-coefficients n k) where
   abbrev s : Sum
@@ -109,23 +129,23 @@ module _ {sp : List ℕ} {sc : List ℤ} {e : ℕ} {own-patterns : List ℕ} {ow
           light = heavier (weight s) (weight so-far) k e (power-weight variables s k) h (r .light);
         }
 
-    -- what `product` requires of the places from 0 to n, which are `count` many
+    -- what `multiply_in` requires of the places from 0 to n, which are `count` many
     module _ {count : ℕ} (all-lent : count ≡ n) where
       lent : firstTerms count own-patterns own-coefficients ≡ so-far
       lent = ap (λ (i : ℕ). firstTerms i own-patterns own-coefficients) all-lent ∙ front-is (r .so-far)
 
-      pub product-low : degreeOf (firstTerms count own-patterns own-coefficients) + degreeOf (terms sp sc) ≤ largestDegree
-      product-low = rw lent (factors .low)
+      pub product-low : degreeOf (terms sp sc) + degreeOf (firstTerms count own-patterns own-coefficients) ≤ largestDegree
+      product-low = rw lent (omega (arith, factors .low))
 
-      pub product-light : weight (firstTerms count own-patterns own-coefficients) * weight (terms sp sc) ≤ largestWeight
-      product-light = rw lent (factors .light)
+      pub product-light : weight (terms sp sc) * weight (firstTerms count own-patterns own-coefficients) ≤ largestWeight
+      product-light = rw lent (omega (arith, factors .light))
 
       -- what it answers
       module _ {ws : List ℕ} {cs : List ℤ} (a : declared.Formed)
-          (told : (formedOf a, ws, cs) ≡ formedInto (productOf (firstTerms count own-patterns own-coefficients) (terms sp sc)) next-patterns next-coefficients) where
+          (told : (formedOf a, ws, cs) ≡ formedInto (productOf (terms sp sc) (firstTerms count own-patterns own-coefficients)) next-patterns next-coefficients) where
         answer : (formedOf a, ws, cs) ≡ formedInto (within (productSpread so-far s) (so-far ⊗ s)) next-patterns next-coefficients
         unfolding productOf
-        answer = told ∙ ap (λ l. formedInto (productOf l s) next-patterns next-coefficients) lent
+        answer = told ∙ ap (λ x. formedInto x next-patterns next-coefficients) (ap (productOf s) lent ∙ product-turned s so-far)
 
         pub stops : OneOf (1 ∷ []) (tagOf the-type a) → (ps : List ℕ) (ds : List ℤ) → (formedOf a, ps, ds) ≡ formedInto (powerOf (terms sp sc) e) ps ds
         unfolding powerOf

@@ -201,7 +201,58 @@ pub fn product(
     multiply(sp, sc, tp, tc, patterns, coefficients)
 }
 
-// A power with exponent 0 is 1 and with exponent 1 is its base; otherwise it is multiplied by the base again and again.
+// The base is multiplied by itself again and again, with a row for each term of the base. The arrays that a product works in are declared once: to clear them for each would take longer than a small product.
+fn repeated(
+    sp: &[u64],
+    sc: &[i64],
+    e: u64,
+    patterns: &mut [u64],
+    coefficients: &mut [i64],
+) -> Formed
+    requires { ⌜ Base (now sp) (now sc) e ⌝ }
+    requires { ⌜ 0 < e ⌝ }
+    requires { ⌜ Room (now patterns) (now coefficients) ⌝ }
+    ensures { λ r. ⌜ (formedOf r, now (patterns .exit), now (coefficients .exit)) ≡ formedInto (powerOf (terms (now (sp .entry)) (now (sc .entry))) e) (now (patterns .entry)) (now (coefficients .entry)) ⌝ }
+{
+    let mut gr = [0u64; MOST_PLACES];
+    let mut gc = [0i64; MOST_PLACES];
+    let mut sr = [0u64; MOST_TERMS];
+    let mut tr = [0u64; MOST_TERMS];
+    let mut own_patterns = [0u64; MOST_TERMS];
+    let mut own_coefficients = [0i64; MOST_TERMS];
+    let mut next_patterns = [0u64; MOST_TERMS];
+    let mut next_coefficients = [0i64; MOST_TERMS];
+    let mut n = sp.len();
+    areas::copy_words(&mut own_patterns, sp, n);
+    areas::copy_coefficients(&mut own_coefficients, sc, n);
+    let mut k = 1;
+    while k < e {
+        let formed = multiply_in(
+            sp,
+            sc,
+            &own_patterns[0..n],
+            &own_coefficients[0..n],
+            &mut gr,
+            &mut gc,
+            &mut sr,
+            &mut tr,
+            &mut next_patterns,
+            &mut next_coefficients,
+        );
+        let Formed::Terms(count) = formed else {
+            return formed;
+        };
+        own_patterns = next_patterns;
+        own_coefficients = next_coefficients;
+        n = count;
+        k += 1;
+    }
+    areas::copy_words(patterns, &own_patterns, n);
+    areas::copy_coefficients(coefficients, &own_coefficients, n);
+    Formed::Terms(n)
+}
+
+// A power with exponent 0 is 1, one of one or two terms needs no products, and a square is one product.
 pub fn power(
     sp: &[u64],
     sc: &[i64],
@@ -224,32 +275,8 @@ pub fn power(
         binomial::raise(sp, sc, e as usize, patterns, coefficients);
         return Formed::Terms(e as usize + 1);
     }
-    let mut own_patterns = [0u64; MOST_TERMS];
-    let mut own_coefficients = [0i64; MOST_TERMS];
-    let mut next_patterns = [0u64; MOST_TERMS];
-    let mut next_coefficients = [0i64; MOST_TERMS];
-    let mut n = sp.len();
-    areas::copy_words(&mut own_patterns, sp, n);
-    areas::copy_coefficients(&mut own_coefficients, sc, n);
-    let mut k = 1;
-    while k < e {
-        let formed = product(
-            &own_patterns[0..n],
-            &own_coefficients[0..n],
-            sp,
-            sc,
-            &mut next_patterns,
-            &mut next_coefficients,
-        );
-        let Formed::Terms(count) = formed else {
-            return formed;
-        };
-        own_patterns = next_patterns;
-        own_coefficients = next_coefficients;
-        n = count;
-        k += 1;
+    if e == 2 {
+        return product(sp, sc, sp, sc, patterns, coefficients);
     }
-    areas::copy_words(patterns, &own_patterns, n);
-    areas::copy_coefficients(coefficients, &own_coefficients, n);
-    Formed::Terms(n)
+    repeated(sp, sc, e, patterns, coefficients)
 }

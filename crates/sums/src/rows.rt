@@ -112,7 +112,7 @@ fn merge(
     Gap { from: i, to: k }
 }
 
-// Closes a gap: what stands after it, up to place `end`, moves down. It answers the number of terms.
+// Closes a gap: what stands after it, up to place `end`, moves down. It answers the number of terms. Where no pattern was met twice there is no gap, and nothing moves.
 fn close(ranks: &mut [u64], coefficients: &mut [i64], from: usize, to: usize, end: usize) -> usize
     requires { ⌜ from ≤ to ⌝ }
     requires { ⌜ to ≤ end ⌝ }
@@ -122,6 +122,9 @@ fn close(ranks: &mut [u64], coefficients: &mut [i64], from: usize, to: usize, en
     ensures { λ r. ⌜ take r (now (ranks .exit)) ≡ closed from to end (now (ranks .entry)) ⌝ }
     ensures { λ r. ⌜ take r (now (coefficients .exit)) ≡ closed from to end (now (coefficients .entry)) ⌝ }
 {
+    if from == to {
+        return end;
+    }
     let mut i = from;
     let mut k = to;
     while k < end {

@@ -1,11 +1,12 @@
 -- `close` meets its contract: the loop keeps `Closing`, for each of the two areas.
 use mathlib.Core.Path.{refl}
 use Prim.Native.Nat.{_-_}
+use native.Mathlib.Omega.{arith}
 use borrow.Author.Needs.{needs}
 use lib.IntN.{pos}
 use mir.Syntax.{w64}
 use mir.ValLaws.{toZ-ofZ}
-use Rattle.sums.proofs.Closing.{Closing, start, again, ended}
+use Rattle.sums.proofs.Closing.{Closing, start, again, ended, no-gap}
 use Rattle.sums.proofs.rows.close.Statement.{statement}
 use Rattle.sums.proofs.rows.close.Tie as tie
 
@@ -16,8 +17,14 @@ Inv-loop ranks₀ coefficients₀ from to end i₀ k₀ ranks coefficients i k =
 abbrev μ-loop : tie.MeasureT-loop
 μ-loop ranks₀ coefficients₀ from to end i₀ k₀ ranks coefficients i k = end - k
 
+returns : tie.Need-returns Inv-loop μ-loop
+returns c =
+    let pre = c .before .pre in
+    let none = c .if1 .taken in
+    (omega (arith, none, pre .1 .0), (no-gap _ none (pre .1 .0), no-gap _ none (pre .1 .0)))
+
 loop-holds : tie.Need-loop-holds Inv-loop μ-loop
-loop-holds c = let pre = c .pre in (start _ (pre .0) (pre .1 .0) (pre .1 .1 .0), start _ (pre .0) (pre .1 .0) (pre .1 .1 .1))
+loop-holds c = let pre = c .before .pre in (start _ (pre .0) (pre .1 .0) (pre .1 .1 .0), start _ (pre .0) (pre .1 .0) (pre .1 .1 .1))
 
 mul-c : tie.Need-mul-c Inv-loop μ-loop
 mul-c c = search needs
@@ -64,8 +71,8 @@ same-length c = search needs
 same-length-2 : tie.Need-same-length-2 Inv-loop μ-loop
 same-length-2 c = search needs
 
-returns : tie.Need-returns Inv-loop μ-loop
-returns c =
+returns-2 : tie.Need-returns-2 Inv-loop μ-loop
+returns-2 c =
     let loop = c .before .loop in
     let words = ended (loop .inv .0) (c .loop-test .left) in
     (words .0, (words .1, ended (loop .inv .1) (c .loop-test .left) .1))
@@ -76,6 +83,7 @@ close-spec =
     (tie.spec
     Inv-loop
     μ-loop
+    returns
     loop-holds
     mul-c
     slice-copy-out-c
@@ -91,4 +99,4 @@ close-spec =
     loop-again
     same-length
     same-length-2
-    returns)
+    returns-2)
