@@ -10,21 +10,18 @@ use lib.IntN.{ℤ, pos}
 use lib.ListN.{length, take}
 use types.Run.{OneOf}
 use denote.Enum.Declared.{tagOf}
-use Rattle.algebra.specs.Pattern.{emptyPattern}
 use Rattle.algebra.specs.Limits.{variables, largestDegree, mostTerms, largestWeight}
-use Rattle.algebra.specs.Sum.{Term, term, Sum, degreeOf, weight}
+use Rattle.algebra.specs.Sum.{Term, Sum, degreeOf, weight}
 use Rattle.algebra.specs.Collect.{gather, dropZeros, collect, spread}
-use Rattle.algebra.specs.Arithmetic.{integer, unit, row, pairs, _⊗_, productSpread, power, powerSpread}
+use Rattle.algebra.specs.Arithmetic.{integer, unit, pairs, _⊗_, productSpread, power, powerSpread}
 use Rattle.algebra.specs.Substitute.{pairRows, substitute, largestPower, pairSpread}
 use Rattle.algebra.specs.Word.{terms}
 use Rattle.algebra.specs.Held.{wordsOf, coefficientsOf, firstTerms}
-use Rattle.algebra.proofs.Numbers.Whole.{*ℤ-oner}
-use Rattle.algebra.proofs.Patterns.Laws.{times-comm, empty-times, empty-degree}
 use Rattle.algebra.proofs.Sums.Every.{Every, Long, UpTo, every-degree}
 use Rattle.algebra.proofs.Sums.Ordered.{parts, gather-fixed}
 use Rattle.algebra.proofs.Sums.Occurs.{spread-gather}
 use Rattle.algebra.proofs.Sums.Ring.{power-suc}
-use Rattle.algebra.proofs.Sums.Results.{unit-integer, unit-ordered, power-degree, power-weight, power-ordered, gather-weight, append-weight}
+use Rattle.algebra.proofs.Sums.Results.{unit-integer, power-degree, power-weight, power-ordered, gather-weight, append-weight}
 use Rattle.algebra.proofs.Sums.Substitutes.{pair-weights}
 use Rattle.answers.specs.Areas.{written}
 use Rattle.sums.specs.Asked as Asked
@@ -44,6 +41,7 @@ use Rattle.pair.specs.Asked.{Given, Allowed}
 use Rattle.pair.specs.Formed.{pairOf}
 use Rattle.pair.specs.Rows.{partAt, rowsAt, CanAddRows}
 use Rattle.pair.proofs.Bounds.{power-low, power-light, rows-within, step-judged, step-narrow}
+use Rattle.pair.proofs.One.{unit-holdable, pairs-unit}
 use Rattle.pair.proofs.TakingPart.{part-holdable}
 use Rattle.pair.proofs.ByPower.{rows-long, rowsTo, all-collected, all-spread, to-spread, to-weight, to-every}
 
@@ -129,8 +127,10 @@ pub record Putting (v largest : ℕ) (sp : List ℕ) (sc : List ℤ) (fp : List 
   pub coefficients-room : mostTerms + mostTerms ≡ length gc
 
 -- the arrays that are lent to work in, and that of the running sum's ranks, keep their lengths
-pub record Lent (gr pr : List ℕ) (pc : List ℤ) (wr : List ℕ) : Type 0 where
+pub record Lent (gr hr : List ℕ) (hc : List ℤ) (pr : List ℕ) (pc : List ℤ) (wr : List ℕ) : Type 0 where
   pub running : mostTerms + mostTerms ≡ length gr
+  pub apart-ranks : mostTerms + mostTerms ≡ length hr
+  pub apart-coefficients : mostTerms + mostTerms ≡ length hc
   pub part-ranks : mostTerms ≡ length pr
   pub part-coefficients : mostTerms ≡ length pc
   pub power-ranks : mostTerms ≡ length wr
@@ -157,16 +157,8 @@ first-power : (S : Sum) {ws : List ℕ} {cs : List ℤ} (ws₀ : List ℕ) (cs�
 unfolding formedInto power
 first-power S ws₀ cs₀ told words-room coefficients-room =
     let is = unit-integer variables in
-    let p = parts variables (unit variables) (unit-ordered variables) in
     front-written ws₀ cs₀ (ap (λ x. x .1) told ∙ ap (λ s. written (wordsOf s) ws₀) is) (ap (λ x. x .2) told ∙ ap (λ s. written (coefficientsOf s) cs₀) is) refl
-    (record { long = p .long; strict = p .strict; low = unfold degreeOf in omega (arith, empty-degree variables); few = omega arith }) words-room coefficients-room
-
--- all pairs of a sum and of 1 are its terms
-pairs-unit : (n : ℕ) (s : Sum) → Every (Long n) s → pairs s (unit n) ≡ s
-unfolding pairs row
-pairs-unit n [] h = refl
-pairs-unit n (t ∷ s) h =
-    ap₂ (λ (u : Term) (l : Sum). u ∷ l) (ap₂ term (*ℤ-oner (t .coefficient)) (times-comm (t .pattern) (emptyPattern n) ∙ empty-times n (t .pattern) (h .0))) (pairs-unit n s (h .1))
+    unit-holdable words-room coefficients-room
 
 pub start : {v largest : ℕ} {sp : List ℕ} {sc : List ℤ} {fp : List ℕ} {fc : List ℤ} {gp : List ℕ} {gc : List ℤ} {all : ℕ} (wp₀ : List ℕ) (wc₀ : List ℤ) {wp : List ℕ} {wc : List ℤ}
     → Given v sp sc fp fc → Allowed v sp sc fp fc → largest ≡ largestPower v (terms fp fc) → Stands (partAt v 0 (terms fp fc)) all gp gc → mostTerms + mostTerms ≡ length gp → mostTerms + mostTerms ≡ length gc

@@ -1,5 +1,5 @@
 // A sum is put for a variable, power by power: the terms without the variable come first, then those with its first power, and so on. Each power is
-// formed once, of the one before. `wp` and `wc` hold the power of the sum that is put, `gr` and `gc` the running sum, by ranks.
+// formed once, of the one before. `wp` and `wc` hold the power of the sum that is put, `gr` and `gc` the running sum, by ranks, and `hr` and `hc` rows that are formed apart.
 use algebra::MOST_TERMS;
 use algebra::Pattern;
 use answers::areas;
@@ -10,6 +10,7 @@ ghost use mathlib.Core.Path.{_≡_};
 ghost use Prim.Native.Nat.{_+_, _*_, _≤_, _<_, min};
 ghost use lib.ListN.{length, take};
 ghost use Rattle.algebra.specs.Limits.{variables, mostTerms};
+ghost use Rattle.algebra.specs.Arithmetic.{pairs};
 ghost use Rattle.algebra.specs.Substitute.{largestPower};
 ghost use Rattle.algebra.specs.Word.{terms};
 ghost use Rattle.algebra.specs.Rank.{wordsAt};
@@ -20,7 +21,7 @@ ghost use Rattle.sums.specs.Formed.{formedOf, productOf, withRow, formedInto};
 ghost use Rattle.sums.specs.Rows.{Stands, Added};
 ghost use Rattle.pair.specs.Asked.{Given, Allowed};
 ghost use Rattle.pair.specs.Formed.{pairOf};
-ghost use Rattle.pair.specs.Rows.{partAt, rowsAt, CanAddRows};
+ghost use Rattle.pair.specs.Rows.{partAt, rowsAt, CanAddRows, RunningRoom, CanAddPairs};
 
 // The terms with the power k of v, without it, by ranks: they keep their order. It answers how many they are.
 fn take_part(v: u64, k: u64, fp: &[u64], fc: &[i64], pr: &mut [u64], pc: &mut [i64]) -> usize
@@ -60,8 +61,58 @@ fn places(n: usize, pairs: usize) -> usize
     MOST_PLACES
 }
 
-// The rows of the terms with the power k of v go into the running sum, which has n terms: all pairs of these terms and of the power that is put for v,
-// with a row for each term of the shorter of the two. `pr`, `pc` and `wr` are lent to work in. No more places of the running sum are lent than are needed: they are cleared.
+// All pairs of two sums go into a running sum of n terms, with a row for each term of the shorter of the two. No more places of the running sum are lent than are
+// needed: they are cleared.
+fn add_straight(
+    gr: &mut [u64],
+    gc: &mut [i64],
+    n: usize,
+    sr: &[u64],
+    sc: &[i64],
+    tr: &[u64],
+    tc: &[i64],
+) -> Formed
+    requires { ⌜ CanAddPairs (now gr) (now gc) n (now sr) (now sc) (now tr) (now tc) ⌝ }
+    ensures { λ r. ⌜ Added (withRow (pairs (terms (wordsAt (now (sr .entry))) (now (sc .entry))) (terms (wordsAt (now (tr .entry))) (now (tc .entry)))) (firstTerms n (wordsAt (now (gr .entry))) (now (gc .entry)))) (formedOf r) (wordsAt (now (gr .exit))) (now (gc .exit)) ⌝ }
+{
+    let m = sr.len();
+    let w = tr.len();
+    let end = places(n, m * w);
+    if m < w {
+        return rows::add_product(&mut gr[0..end], &mut gc[0..end], n, sr, sc, tr, tc);
+    }
+    rows::add_product(&mut gr[0..end], &mut gc[0..end], n, tr, tc, sr, sc)
+}
+
+// The same, but more rows than one are formed apart, in `hr` and `hc`, and go into the running sum as one row: it is long, and every row would move its terms.
+fn add_apart(
+    gr: &mut [u64],
+    gc: &mut [i64],
+    n: usize,
+    sr: &[u64],
+    sc: &[i64],
+    tr: &[u64],
+    tc: &[i64],
+    hr: &mut [u64],
+    hc: &mut [i64],
+) -> Formed
+    requires { ⌜ CanAddPairs (now gr) (now gc) n (now sr) (now sc) (now tr) (now tc) ⌝ }
+    requires { ⌜ RunningRoom (now hr) (now hc) ⌝ }
+    ensures { λ r. ⌜ Added (withRow (pairs (terms (wordsAt (now (sr .entry))) (now (sc .entry))) (terms (wordsAt (now (tr .entry))) (now (tc .entry)))) (firstTerms n (wordsAt (now (gr .entry))) (now (gc .entry)))) (formedOf r) (wordsAt (now (gr .exit))) (now (gc .exit)) ⌝ }
+{
+    if sr.len() < 2 || tr.len() < 2 {
+        return add_straight(gr, gc, n, sr, sc, tr, tc);
+    }
+    let product = add_straight(hr, hc, 0, sr, sc, tr, tc);
+    let Formed::Terms(together) = product else {
+        return product;
+    };
+    // The other factor is 1: the rank 0 is that of the empty pattern.
+    add_straight(gr, gc, n, &hr[0..together], &hc[0..together], &[0], &[1])
+}
+
+// The rows of the terms with the power k of v go into the running sum, which has n terms: all pairs of these terms and of the power that is put for v.
+// `pr`, `pc`, `wr`, `hr` and `hc` are lent to work in.
 fn add_rows(
     v: u64,
     k: u64,
@@ -75,10 +126,13 @@ fn add_rows(
     pr: &mut [u64],
     pc: &mut [i64],
     wr: &mut [u64],
+    hr: &mut [u64],
+    hc: &mut [i64],
 ) -> Formed
     requires { ⌜ CanAddRows v k (now fp) (now fc) (now wp) (now wc) (wordsAt (now gr)) (now gc) n ⌝ }
     requires { ⌜ Room (now pr) (now pc) ⌝ }
     requires { ⌜ mostTerms ≤ length (now wr) ⌝ }
+    requires { ⌜ RunningRoom (now hr) (now hc) ⌝ }
     ensures { λ r. ⌜ Added (withRow (rowsAt v k (terms (now (wp .entry)) (now (wc .entry))) (terms (now (fp .entry)) (now (fc .entry)))) (firstTerms n (wordsAt (now (gr .entry))) (now (gc .entry)))) (formedOf r) (wordsAt (now (gr .exit))) (now (gc .exit)) ⌝ }
 {
     let m = take_part(v, k, fp, fc, pr, pc);
@@ -87,27 +141,7 @@ fn add_rows(
     }
     let w = wp.len();
     rows::rank_words(wp, wr);
-    let end = places(n, m * w);
-    if m < w {
-        return rows::add_product(
-            &mut gr[0..end],
-            &mut gc[0..end],
-            n,
-            &pr[0..m],
-            &pc[0..m],
-            &wr[0..w],
-            wc,
-        );
-    }
-    rows::add_product(
-        &mut gr[0..end],
-        &mut gc[0..end],
-        n,
-        &wr[0..w],
-        wc,
-        &pr[0..m],
-        &pc[0..m],
-    )
+    add_apart(gr, gc, n, &pr[0..m], &pc[0..m], &wr[0..w], wc, hr, hc)
 }
 
 // The power becomes the next one, which is formed in two areas that are lent to work in.
@@ -154,6 +188,8 @@ pub fn put(
 {
     let mut gr = [0u64; MOST_PLACES];
     let mut gc = [0i64; MOST_PLACES];
+    let mut hr = [0u64; MOST_PLACES];
+    let mut hc = [0i64; MOST_PLACES];
     let mut wp = [0u64; MOST_TERMS];
     let mut wc = [0i64; MOST_TERMS];
     let mut pr = [0u64; MOST_TERMS];
@@ -184,6 +220,8 @@ pub fn put(
             &mut pr,
             &mut pc,
             &mut wr,
+            &mut hr,
+            &mut hc,
         );
         let Formed::Terms(together) = added else {
             return added;
