@@ -1,6 +1,6 @@
 -- Weights above 2^62 are found without overflow: they are only told apart from those that are allowed.
-use mathlib.Core.Path.{_≡_, sym, _∙_, ap}
-use Prim.Native.Nat.{ℕ, suc, _+_, _*_, _^_, _/_, _%_, _-_, _≤_, _<_}
+use mathlib.Core.Path.{_≡_, refl, sym, _∙_, ap}
+use Prim.Native.Nat.{ℕ, zero, suc, _+_, _*_, _^_, _/_, _%_, _-_, _≤_, _<_}
 use native.Mathlib.Omega.{arith}
 use native.Mathlib.Decide.{decLt, ℕ-discrete}
 use native.Mathlib.Nat.{min-eq-left, min-eq-right, mul-le-mul, mul-le-mul-left, mul-comm, mul-right-comm, add-mul, mul-zero, pow-zero, pow-suc, one-mul}
@@ -92,6 +92,20 @@ pub record Raising (w e power k : ℕ) : Type 0 where
 
 pub none-raised : (w : ℕ) → 1 ≡ capped (w ^ 0)
 none-raised w = ap capped (sym (pow-zero w))
+
+-- the powers of 0 and of 1 are the number itself, from the first one on
+low-square : (w : ℕ) → w ≤ 1 → w * w ≡ w
+low-square zero low = omega arith
+low-square (suc zero) low = omega arith
+low-square (suc (suc w)) low = absurd (omega arith)
+
+low-power : (w e : ℕ) → w ≤ 1 → w ^ suc e ≡ w
+low-power w zero low = pow-suc w 0 ∙ ap (λ (n : ℕ). n * w) (pow-zero w) ∙ one-mul w
+low-power w (suc e) low = pow-suc w (suc e) ∙ ap (λ (n : ℕ). n * w) (low-power w e low) ∙ low-square w low
+
+pub low-raised : (w e : ℕ) → (e ≡ 0 → ⊥) → w ≤ 1 → w ≡ capped (w ^ e)
+low-raised w zero some low = absurd (some refl)
+low-raised w (suc e) some low = light-capped w (omega arith) ∙ ap capped (sym (low-power w e low))
 
 pub start : (w e power : ℕ) → (e ≡ 0 → ⊥) → power ≡ capped w → Raising w e power 1
 start w e power some is = record { so-far = is ∙ ap capped (sym (pow-suc w 0 ∙ ap (λ (n : ℕ). n * w) (pow-zero w) ∙ one-mul w)); inside = omega (arith, some) }

@@ -81,12 +81,15 @@ pub fn product(v: u64, w: u64) -> u64
     TOO_HEAVY
 }
 
-// Product by product, so nothing above 2^62 is multiplied again.
+// Product by product, so nothing above 2^62 is multiplied again. The powers of 0 and 1 are known, but for the power 0, which is 1.
 pub fn power(w: u64, e: u64) -> u64
     ensures { λ r. ⌜ r ≡ capped (w ^ e) ⌝ }
 {
     if e == 0 {
         return 1;
+    }
+    if w <= 1 {
+        return w;
     }
     let mut power = cap(w);
     let mut k = 1;

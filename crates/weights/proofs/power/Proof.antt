@@ -1,7 +1,7 @@
 -- `power` meets its contract: the loop keeps `Raising`.
 use Prim.Native.Nat.{_-_}
 use borrow.Author.Needs.{needs}
-use Rattle.weights.proofs.Weighing.{Raising, none-raised, start, again, ended}
+use Rattle.weights.proofs.Weighing.{Raising, none-raised, low-raised, start, again, ended}
 use Rattle.weights.proofs.power.Statement.{statement}
 use Rattle.weights.proofs.power.Tie as tie
 
@@ -14,11 +14,14 @@ abbrev μ-loop : tie.MeasureT-loop
 returns : tie.Need-returns Inv-loop μ-loop
 returns c = rw (c .if1 .taken) (none-raised (c .before .args .w))
 
+returns-2 : tie.Need-returns-2 Inv-loop μ-loop
+returns-2 c = low-raised _ _ (c .before .if1 .left) (c .if2 .taken)
+
 cap-requires : tie.Need-cap-requires Inv-loop μ-loop
 cap-requires c κs = search needs
 
 loop-holds : tie.Need-loop-holds Inv-loop μ-loop
-loop-holds c = start _ _ _ (c .before .if1 .left) (c .cap .ensures)
+loop-holds c = start _ _ _ (c .before .before .if1 .left) (c .cap .ensures)
 
 product-requires : tie.Need-product-requires Inv-loop μ-loop
 product-requires c κs = search needs
@@ -32,8 +35,8 @@ loop-less c = search needs
 loop-again : tie.Need-loop-again Inv-loop μ-loop
 loop-again c = again _ _ _ _ _ (c .before .before .loop .inv) (c .before .loop-test .taken) (c .product .ensures)
 
-returns-2 : tie.Need-returns-2 Inv-loop μ-loop
-returns-2 c = ended _ _ _ _ (c .before .loop .inv) (c .loop-test .left)
+returns-3 : tie.Need-returns-3 Inv-loop μ-loop
+returns-3 c = ended _ _ _ _ (c .before .loop .inv) (c .loop-test .left)
 
 pub power-spec : {M : Type 1} → statement M
 power-spec =
@@ -42,10 +45,11 @@ power-spec =
     Inv-loop
     μ-loop
     returns
+    returns-2
     cap-requires
     loop-holds
     product-requires
     add-k
     loop-less
     loop-again
-    returns-2)
+    returns-3)
