@@ -1,4 +1,5 @@
 /* Times the library beside plain C programs of the same rules, formula by formula and operation by operation: bench FORMULAS.
+ * With more words, bench FORMULAS CONTESTANT OPERATION FORMULA CALLS, it only makes so many calls, for bench/count; the three in the middle are counted from 0.
  *
  * The contestants are the library, quick (plain.c) and, with -DOTHER, another program (other.h). All of them work in the same areas, which are lent again for
  * every call, as a router would lend them. Before an operation is timed, the contestants' numbers and every byte that they leave are compared: where two
@@ -312,9 +313,18 @@ static void print_summary(int count) {
     }
 }
 
+/* So many calls of one operation, and nothing else. */
+static int only(int count, char **words) {
+    int c = atoi(words[0]), operation = atoi(words[1]), formula = atoi(words[2]);
+    if (c < 0 || c >= CONTESTANTS || operation < 0 || operation >= OPERATIONS || formula < 0 || formula >= count) return 2;
+    f = &formulas[formula];
+    contestants[c].batches[operation](atol(words[3]));
+    return 0;
+}
+
 int main(int argc, char **argv) {
-    if (argc != 2) {
-        fprintf(stderr, "usage: bench FORMULAS\n");
+    if (argc != 2 && argc != 6) {
+        fprintf(stderr, "usage: bench FORMULAS [CONTESTANT OPERATION FORMULA CALLS]\n");
         return 2;
     }
     int count = read_formulas(argv[1]);
@@ -325,6 +335,7 @@ int main(int argc, char **argv) {
         readings[2 * v + 1] = (uint8_t)(reading >> 8 & 255);
         tolerances[2 * v] = 1;
     }
+    if (argc == 6) return only(count, argv + 2);
     print_machine(count);
     for (int o = 0; o < OPERATIONS; o++) {
         for (int i = 0; i < count; i++) {

@@ -1,14 +1,14 @@
 -- Whole numbers of 64 bits: what was written is read again, and what is read was written. Callers cite these.
-use mathlib.Core.Path.{_≡_}
+use mathlib.Core.Path.{_≡_, _∙_, ap}
 use mathlib.Core.List.{List, [], _∷_, _++_, append-assoc}
-use Prim.Native.Nat.{ℕ, _+_, _*_, _/_, _^_, _≤_, _<_}
+use Prim.Native.Nat.{ℕ, _+_, _-_, _*_, _/_, _^_, _≤_, _<_}
 use native.Mathlib.Omega.{arith}
 use native.Mathlib.Decide.{decLt}
 use lib.ListN.{length, getD, take, drop}
 use lib.Seq.{drop-at, length-take-le, sets, sets-eq}
-use Rattle.numbers.specs.Item.{Item.got, Item.cut, Item.bad}
+use Rattle.numbers.specs.Item.{Item.got, Item.cut, Item.bad, mapped}
 use Rattle.numbers.specs.Number.{mostGroups, numberBytes, groupsOf, readNumber}
-use Rattle.numbers.proofs.Groups.{groups-last, groups-next, groups-some, groups-length, groups-bytes, at-last, groups-cut, groups-bad, groups-inside, read-written, taken}
+use Rattle.numbers.proofs.Groups.{groups-last, groups-next, groups-some, groups-length, groups-bytes, above, at-last, at-next, groups-cut, groups-bad, groups-inside, read-written, taken}
 
 -- ---- The bytes of a number.
 
@@ -53,6 +53,14 @@ write-read area at n room fits =
 pub number-byte : (s : List ℕ) (at : ℕ) → at < length s → getD s at 0 < 128 → readNumber s at ≡ got (getD s at 0) (at + 1)
 unfolding readNumber
 number-byte s at inside low = at-last s at at inside 8 low (λ late. omega arith)
+
+-- and so are two, if the first says that another follows, and the second is neither 0 nor followed
+pub number-pair : (s : List ℕ) (at : ℕ) → at + 1 < length s → 128 ≤ getD s at 0 → 0 < getD s (at + 1) 0 → getD s (at + 1) 0 < 128
+    → readNumber s at ≡ got (getD s at 0 - 128 + 128 * getD s (at + 1) 0) (at + 2)
+unfolding readNumber mapped
+number-pair s at inside follows some low =
+    let end : at + 1 + 1 ≡ at + 2 = omega arith in
+    at-next s at at (omega arith) 8 follows ∙ ap (above (getD s at 0 - 128) 128) (at-last s at (at + 1) inside 7 low (λ late. some)) ∙ ap (got (getD s at 0 - 128 + 128 * getD s (at + 1) 0)) end
 
 -- ---- What is read was written.
 

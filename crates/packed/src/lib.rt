@@ -44,14 +44,23 @@ const LARGEST_WORD: u64 = 18446744073709551615;
 
 // ---- One item. Its answer is taken apart, and a refusal is returned at once.
 
-// The number at a place. One byte is the usual case, and is seen here.
+// The number at a place. One byte, or two, are the usual case, and are seen here.
 fn read_short(bytes: &[u8], at: usize) -> Read
     ensures { λ r. ⌜ itemOf r ≡ readNumber (now (bytes .entry)) at ⌝ }
 {
     if at < bytes.len() {
-        let byte = bytes[at];
-        if byte < 128 {
-            return Read::Value(byte as u64, at + 1);
+        let low = bytes[at] as u64;
+        if low < 128 {
+            return Read::Value(low, at + 1);
+        }
+        if at + 1 < bytes.len() {
+            let high = bytes[at + 1] as u64;
+            if high < 128 {
+                // A last group of 0 is at fault.
+                if high > 0 {
+                    return Read::Value(low - 128 + 128 * high, at + 2);
+                }
+            }
         }
     }
     numbers::read_number(bytes, at)

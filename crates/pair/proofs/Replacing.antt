@@ -127,10 +127,8 @@ pub record Putting (v largest : ℕ) (sp : List ℕ) (sc : List ℤ) (fp : List 
   pub coefficients-room : mostTerms + mostTerms ≡ length gc
 
 -- the arrays that are lent to work in, and that of the running sum's ranks, keep their lengths
-pub record Lent (gr hr : List ℕ) (hc : List ℤ) (pr : List ℕ) (pc : List ℤ) (wr : List ℕ) : Type 0 where
+pub record Lent (gr pr : List ℕ) (pc : List ℤ) (wr : List ℕ) : Type 0 where
   pub running : mostTerms + mostTerms ≡ length gr
-  pub apart-ranks : mostTerms + mostTerms ≡ length hr
-  pub apart-coefficients : mostTerms + mostTerms ≡ length hc
   pub part-ranks : mostTerms ≡ length pr
   pub part-coefficients : mostTerms ≡ length pc
   pub power-ranks : mostTerms ≡ length wr

@@ -1,5 +1,5 @@
 // A sum is put for a variable, power by power: the terms without the variable come first, then those with its first power, and so on. Each power is
-// formed once, of the one before. `wp` and `wc` hold the power of the sum that is put, `gr` and `gc` the running sum, by ranks, and `hr` and `hc` rows that are formed apart.
+// formed once, of the one before. `wp` and `wc` hold the power of the sum that is put, `gr` and `gc` the running sum, by ranks.
 use algebra::MOST_TERMS;
 use algebra::Pattern;
 use answers::areas;
@@ -21,7 +21,7 @@ ghost use Rattle.sums.specs.Formed.{formedOf, productOf, withRow, formedInto};
 ghost use Rattle.sums.specs.Rows.{Stands, Added};
 ghost use Rattle.pair.specs.Asked.{Given, Allowed};
 ghost use Rattle.pair.specs.Formed.{pairOf};
-ghost use Rattle.pair.specs.Rows.{partAt, rowsAt, CanAddRows, RunningRoom, CanAddPairs};
+ghost use Rattle.pair.specs.Rows.{partAt, rowsAt, CanAddRows, CanAddPairs};
 
 // The terms with the power k of v, without it, by ranks: they keep their order. It answers how many they are.
 fn take_part(v: u64, k: u64, fp: &[u64], fc: &[i64], pr: &mut [u64], pc: &mut [i64]) -> usize
@@ -84,7 +84,7 @@ fn add_straight(
     rows::add_product(&mut gr[0..end], &mut gc[0..end], n, tr, tc, sr, sc)
 }
 
-// The same, but more rows than one are formed apart, in `hr` and `hc`, and go into the running sum as one row: it is long, and every row would move its terms.
+// The same, but more rows than one are formed apart, in two other arrays, and go into the running sum as one row: it is long, and every row would move its terms.
 fn add_apart(
     gr: &mut [u64],
     gc: &mut [i64],
@@ -93,17 +93,16 @@ fn add_apart(
     sc: &[i64],
     tr: &[u64],
     tc: &[i64],
-    hr: &mut [u64],
-    hc: &mut [i64],
 ) -> Formed
     requires { ⌜ CanAddPairs (now gr) (now gc) n (now sr) (now sc) (now tr) (now tc) ⌝ }
-    requires { ⌜ RunningRoom (now hr) (now hc) ⌝ }
     ensures { λ r. ⌜ Added (withRow (pairs (terms (wordsAt (now (sr .entry))) (now (sc .entry))) (terms (wordsAt (now (tr .entry))) (now (tc .entry)))) (firstTerms n (wordsAt (now (gr .entry))) (now (gc .entry)))) (formedOf r) (wordsAt (now (gr .exit))) (now (gc .exit)) ⌝ }
 {
     if sr.len() < 2 || tr.len() < 2 {
         return add_straight(gr, gc, n, sr, sc, tr, tc);
     }
-    let product = add_straight(hr, hc, 0, sr, sc, tr, tc);
+    let mut hr = [0u64; MOST_PLACES];
+    let mut hc = [0i64; MOST_PLACES];
+    let product = add_straight(&mut hr, &mut hc, 0, sr, sc, tr, tc);
     let Formed::Terms(together) = product else {
         return product;
     };
@@ -112,7 +111,7 @@ fn add_apart(
 }
 
 // The rows of the terms with the power k of v go into the running sum, which has n terms: all pairs of these terms and of the power that is put for v.
-// `pr`, `pc`, `wr`, `hr` and `hc` are lent to work in.
+// `pr`, `pc` and `wr` are lent to work in.
 fn add_rows(
     v: u64,
     k: u64,
@@ -126,13 +125,10 @@ fn add_rows(
     pr: &mut [u64],
     pc: &mut [i64],
     wr: &mut [u64],
-    hr: &mut [u64],
-    hc: &mut [i64],
 ) -> Formed
     requires { ⌜ CanAddRows v k (now fp) (now fc) (now wp) (now wc) (wordsAt (now gr)) (now gc) n ⌝ }
     requires { ⌜ Room (now pr) (now pc) ⌝ }
     requires { ⌜ mostTerms ≤ length (now wr) ⌝ }
-    requires { ⌜ RunningRoom (now hr) (now hc) ⌝ }
     ensures { λ r. ⌜ Added (withRow (rowsAt v k (terms (now (wp .entry)) (now (wc .entry))) (terms (now (fp .entry)) (now (fc .entry)))) (firstTerms n (wordsAt (now (gr .entry))) (now (gc .entry)))) (formedOf r) (wordsAt (now (gr .exit))) (now (gc .exit)) ⌝ }
 {
     let m = take_part(v, k, fp, fc, pr, pc);
@@ -141,7 +137,7 @@ fn add_rows(
     }
     let w = wp.len();
     rows::rank_words(wp, wr);
-    add_apart(gr, gc, n, &pr[0..m], &pc[0..m], &wr[0..w], wc, hr, hc)
+    add_apart(gr, gc, n, &pr[0..m], &pc[0..m], &wr[0..w], wc)
 }
 
 // The power becomes the next one, which is formed in two areas that are lent to work in.
@@ -188,8 +184,6 @@ pub fn put(
 {
     let mut gr = [0u64; MOST_PLACES];
     let mut gc = [0i64; MOST_PLACES];
-    let mut hr = [0u64; MOST_PLACES];
-    let mut hc = [0i64; MOST_PLACES];
     let mut wp = [0u64; MOST_TERMS];
     let mut wc = [0i64; MOST_TERMS];
     let mut pr = [0u64; MOST_TERMS];
@@ -220,8 +214,6 @@ pub fn put(
             &mut pr,
             &mut pc,
             &mut wr,
-            &mut hr,
-            &mut hc,
         );
         let Formed::Terms(together) = added else {
             return added;

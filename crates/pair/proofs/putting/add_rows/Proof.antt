@@ -15,16 +15,16 @@ use Rattle.pair.proofs.putting.add_rows.Tie as tie
 
 -- the part stands in the two arrays that are lent for it
 taken : (d : tie.After-take-part)
-    → let args = d .before .before .before .before .before .before .before .before .before .args in
+    → let args = d .before .before .before .before .before .before .before .before .args in
     Taken (args .v) (args .k) (args .fp .now) (args .fc .now) (args .wp .now) (args .wc .now) (args .gr .now) (args .gc .now) (args .n) (d .take-part .result) (d .take-part .last .1 .1 .1 .1 .0) (d .take-part .last .1 .1 .1 .1 .1 .0)
-taken d = record { asked = d .before .before .before .before .before .before .before .before .before .pre .0; stands = d .take-part .ensures }
+taken d = record { asked = d .before .before .before .before .before .before .before .before .pre .0; stands = d .take-part .ensures }
 
 -- the ranks of the power, in the first places of the array that is lent for them
 abbrev power-ranks : tie.After-rank-words → List ℕ
-power-ranks d = take (length (d .before .before .before .before .before .before .before .before .before .before .before .before .before .before .before .args .wp .now) - 0) (d .rank-words .last .1 .0)
+power-ranks d = take (length (d .before .before .before .before .before .before .before .before .before .before .before .before .before .before .args .wp .now) - 0) (d .rank-words .last .1 .0)
 
-power : (d : tie.After-rank-words) → wordsAt (power-ranks d) ≡ d .before .before .before .before .before .before .before .before .before .before .before .before .before .before .before .args .wp .now
-power d = let entry = d .before .before .before .before .before .before .before .before .before .before .before .before .before .before .before in ranked-words (entry .args .wp .now) (entry .args .wr .now) (each-valid (entry .pre .0 .factor)) (d .rank-words .ensures) (sym (sub-zero _))
+power : (d : tie.After-rank-words) → wordsAt (power-ranks d) ≡ d .before .before .before .before .before .before .before .before .before .before .before .before .before .before .args .wp .now
+power d = let entry = d .before .before .before .before .before .before .before .before .before .before .before .before .before .before in ranked-words (entry .args .wp .now) (entry .args .wr .now) (each-valid (entry .pre .0 .factor)) (d .rank-words .ensures) (sym (sub-zero _))
 
 take-part-requires : tie.Need-take-part-requires
 take-part-requires c κs = search needs
@@ -39,7 +39,7 @@ returns : tie.Need-returns
 returns c = none-added (taken (c .before .before .before .before)) (c .if1 .taken)
 
 rank-words-requires : tie.Need-rank-words-requires
-rank-words-requires c κs = let pre = c .before .before .before .before .before .before .before .before .before .before .before .before .before .before .pre in (each-valid (pre .0 .factor), omega (arith, pre .0 .factor .few, pre .1 .1 .0))
+rank-words-requires c κs = let pre = c .before .before .before .before .before .before .before .before .before .before .before .before .before .pre in (each-valid (pre .0 .factor), omega (arith, pre .0 .factor .few, pre .1 .1))
 
 sub-add-apart : tie.Need-sub-add-apart
 sub-add-apart c = search needs
@@ -69,7 +69,7 @@ part-add-apart-end-3 : tie.Need-part-add-apart-end-3
 part-add-apart-end-3 c = search needs
 
 add-apart-requires : tie.Need-add-apart-requires
-add-apart-requires c κs = (can-add (taken (c .before .before .before .before .before .before .before .before .before .before .before .before .before .before .before .before .before .before)) (power-ranks (c .before .before .before .before .before .before .before .before .before .before .before .before)) (power (c .before .before .before .before .before .before .before .before .before .before .before .before)) (sub-zero _), c .before .before .before .before .before .before .before .before .before .before .before .before .before .before .before .before .before .before .before .before .before .before .before .before .before .before .before .pre .1 .1 .1)
+add-apart-requires c κs = let d = c .before .before .before .before .before .before .before .before .before .before in can-add (taken (d .before .before .before .before .before .before)) (power-ranks d) (power d) (sub-zero _)
 
 same-length-3 : tie.Need-same-length-3
 same-length-3 c = search needs
@@ -86,14 +86,8 @@ same-length-6 c = search needs
 same-length-7 : tie.Need-same-length-7
 same-length-7 c = search needs
 
-same-length-8 : tie.Need-same-length-8
-same-length-8 c = search needs
-
-same-length-9 : tie.Need-same-length-9
-same-length-9 c = search needs
-
 returns-2 : tie.Need-returns-2
-returns-2 c = rows-added (taken (c .before .before .before .before .before .before .before .before .before .before .before .before .before .before .before .before .before .before .before .before .before .before .before .before .before)) (power-ranks (c .before .before .before .before .before .before .before .before .before .before .before .before .before .before .before .before .before .before .before)) (power (c .before .before .before .before .before .before .before .before .before .before .before .before .before .before .before .before .before .before .before)) (sub-zero _) (c .before .before .before .before .before .before .add-apart .ensures)
+returns-2 c = let d = c .before .before .before .before .before .before .before .before .before .before .before .before .before .before in rows-added (taken (d .before .before .before .before .before .before)) (power-ranks d) (power d) (sub-zero _) (c .before .before .before .add-apart .ensures)
 
 pub add-rows-spec : {M : Type 1} → statement M
 add-rows-spec =
@@ -119,6 +113,4 @@ add-rows-spec =
     same-length-5
     same-length-6
     same-length-7
-    same-length-8
-    same-length-9
     returns-2)

@@ -16,11 +16,11 @@ use Rattle.pair.proofs.putting.put.Statement.{statement}
 use Rattle.pair.proofs.putting.put.Tie as tie
 
 abbrev Inv-loop : tie.InvT-loop
-Inv-loop v largest sp sc fp fc patterns coefficients gr₀ gc₀ hr₀ hc₀ wp₀ wc₀ pr₀ pc₀ wr₀ all₀ n₀ k₀ gr gc hr hc wp wc pr pc wr all n k =
-    Putting v largest sp sc fp fc (wordsAt gr) gc wp wc n all k × Lent gr hr hc pr pc wr
+Inv-loop v largest sp sc fp fc patterns coefficients gr₀ gc₀ wp₀ wc₀ pr₀ pc₀ wr₀ all₀ n₀ k₀ gr gc wp wc pr pc wr all n k =
+    Putting v largest sp sc fp fc (wordsAt gr) gc wp wc n all k × Lent gr pr pc wr
 
 abbrev μ-loop : tie.MeasureT-loop
-μ-loop v largest sp sc fp fc patterns coefficients gr₀ gc₀ hr₀ hc₀ wp₀ wc₀ pr₀ pc₀ wr₀ all₀ n₀ k₀ gr gc hr hc wp wc pr pc wr all n k =
+μ-loop v largest sp sc fp fc patterns coefficients gr₀ gc₀ wp₀ wc₀ pr₀ pc₀ wr₀ all₀ n₀ k₀ gr gc wp wc pr pc wr all n k =
     largest - k
 
 slice-aggregate-take-part : tie.Need-slice-aggregate-take-part Inv-loop μ-loop
@@ -47,7 +47,7 @@ loop-holds c =
     let i = c .before .before .integer in
     let pre = c .before .before .before .before .before .before .before .before .before .before .before .before .before .pre in (
       start (replicate mostTerms 0) (replicate mostTerms (pos 0)) (pre .0) (pre .1 .0) (pre .1 .1 .0) (t .ensures) (sym (length-map (t .last .1 .1 .1 .1 .0) wordAt ∙ t .kept .1 .1 .1 .1 .0)) (sym (t .kept .1 .1 .1 .1 .1 .0)) (i .ensures) (sym (i .kept .1 .0)) (sym (i .kept .1 .1 .0)),
-      record { running = sym (t .kept .1 .1 .1 .1 .0); apart-ranks = refl; apart-coefficients = refl; part-ranks = refl; part-coefficients = refl; power-ranks = refl },
+      record { running = sym (t .kept .1 .1 .1 .1 .0); part-ranks = refl; part-coefficients = refl; power-ranks = refl },
     )
 
 slice-aggregate-raise : tie.Need-slice-aggregate-raise Inv-loop μ-loop
@@ -134,21 +134,15 @@ slice-aggregate-add-rows-4 c = search needs
 slice-aggregate-add-rows-5 : tie.Need-slice-aggregate-add-rows-5 Inv-loop μ-loop
 slice-aggregate-add-rows-5 c = search needs
 
-slice-aggregate-add-rows-6 : tie.Need-slice-aggregate-add-rows-6 Inv-loop μ-loop
-slice-aggregate-add-rows-6 c = search needs
-
-slice-aggregate-add-rows-7 : tie.Need-slice-aggregate-add-rows-7 Inv-loop μ-loop
-slice-aggregate-add-rows-7 c = search needs
-
 add-rows-requires : tie.Need-add-rows-requires Inv-loop μ-loop
 add-rows-requires c κs =
-    let d = c .before .before .before .before .before .before .before .before .before .before .before in
+    let d = c .before .before .before .before .before .before .before .before .before in
     let r = d .before .before .before .before .before .before .before .raise in
     let spare = d .before .before .before .before .before .before .before .before .before .before .before .before .before .loop .inv .1 in (
       can-add (next-rows d) (sub-zero _),
       (
         record { words = omega (arith, spare .part-ranks, r .kept .1 .1 .1 .1 .1 .0); coefficients = omega (arith, spare .part-coefficients, r .kept .1 .1 .1 .1 .1 .1 .0) },
-        (omega (arith, spare .power-ranks), record { ranks = omega (arith, spare .apart-ranks); coefficients = omega (arith, spare .apart-coefficients) }),
+        omega (arith, spare .power-ranks),
       ),
     )
 
@@ -160,24 +154,22 @@ enum-told-2 c = search needs
 
 returns-2 : tie.Need-returns-2 Inv-loop μ-loop
 returns-2 c =
-    let r = c .before .before .before .before .before .before .before .before .before .add-rows in
-    rows-stop (next-rows (c .before .before .before .before .before .before .before .before .before .before .before .before .before .before .before .before .before .before .before .before .before)) (sub-zero _) (r .result) (r .ensures) (c .before .match2 .keys2) _ _
+    let r = c .before .before .before .before .before .before .before .add-rows in
+    rows-stop (next-rows (c .before .before .before .before .before .before .before .before .before .before .before .before .before .before .before .before .before)) (sub-zero _) (r .result) (r .ensures) (c .before .match2 .keys2) _ _
 
 loop-less : tie.Need-loop-less Inv-loop μ-loop
-loop-less c = omega (arith, c .before .before .before .before .before .before .before .before .before .before .before .before .before .before .before .before .before .before .before .before .before .before .before .before .before .before .before .before .before .before .before .before .before .before .loop-test .taken)
+loop-less c = search needs
 
 loop-again : tie.Need-loop-again Inv-loop μ-loop
 loop-again c =
-    let r = c .before .before .before .before .before .before .before .before .before .before .add-rows in
-    let raised = c .before .before .before .before .before .before .before .before .before .before .before .before .before .before .before .before .before .before .before .before .before .before .before .before .before .before .before .before .before .raise in
-    let loop = c .before .before .before .before .before .before .before .before .before .before .before .before .before .before .before .before .before .before .before .before .before .before .before .before .before .before .before .before .before .before .before .before .before .before .before .loop in
+    let r = c .before .before .before .before .before .before .before .before .add-rows in
+    let raised = c .before .before .before .before .before .before .before .before .before .before .before .before .before .before .before .before .before .before .before .before .before .before .before .before .before .raise in
+    let loop = c .before .before .before .before .before .before .before .before .before .before .before .before .before .before .before .before .before .before .before .before .before .before .before .before .before .before .before .before .before .before .before .loop in
     let spare = loop .inv .1 in
     let same = length-map (r .last .1 .1 .1 .1 .1 .1 .0) wordAt ∙ r .kept .1 .1 .1 .1 .1 .1 .0 ∙ sym (length-map (loop .gr) wordAt) in (
-      joins (next-rows (c .before .before .before .before .before .before .before .before .before .before .before .before .before .before .before .before .before .before .before .before .before .before)) (sub-zero _) (r .result) (r .ensures) (c .before .added .given .1) same (r .kept .1 .1 .1 .1 .1 .1 .1 .0),
+      joins (next-rows (c .before .before .before .before .before .before .before .before .before .before .before .before .before .before .before .before .before .before)) (sub-zero _) (r .result) (r .ensures) (c .before .added .given .1) same (r .kept .1 .1 .1 .1 .1 .1 .1 .0),
       record {
         running = omega (arith, spare .running, r .kept .1 .1 .1 .1 .1 .1 .0);
-        apart-ranks = omega (arith, spare .apart-ranks, r .kept .1 .1 .1 .1 .1 .1 .1 .1 .1 .1 .1 .1 .0);
-        apart-coefficients = omega (arith, spare .apart-coefficients, r .kept .1 .1 .1 .1 .1 .1 .1 .1 .1 .1 .1 .1 .1 .0);
         part-ranks = omega (arith, spare .part-ranks, raised .kept .1 .1 .1 .1 .1 .0, r .kept .1 .1 .1 .1 .1 .1 .1 .1 .1 .0);
         part-coefficients = omega (arith, spare .part-coefficients, raised .kept .1 .1 .1 .1 .1 .1 .0, r .kept .1 .1 .1 .1 .1 .1 .1 .1 .1 .1 .0);
         power-ranks = omega (arith, spare .power-ranks, r .kept .1 .1 .1 .1 .1 .1 .1 .1 .1 .1 .1 .0);
@@ -253,8 +245,6 @@ put-spec =
     slice-aggregate-add-rows-3
     slice-aggregate-add-rows-4
     slice-aggregate-add-rows-5
-    slice-aggregate-add-rows-6
-    slice-aggregate-add-rows-7
     add-rows-requires
     enum-known-added
     enum-told-2
