@@ -1,18 +1,16 @@
 -- What the code's readers answer, and leave in two areas.
-use mathlib.Core.Path.{_≡_}
 use mathlib.Core.List.{List, []}
-use Prim.Native.Nat.{ℕ, _<_}
+use Prim.Native.Nat.{ℕ}
 use lib.Dec.{leb}
-use lib.IntN.{ℤ, pos}
-use lib.ListN.{length, take}
-use Rattle.algebra.specs.Limits.{variables, mostTerms}
+use lib.IntN.{ℤ}
+use lib.ListN.{length}
+use Rattle.algebra.specs.Limits.{mostTerms}
 use Rattle.algebra.specs.Sum.{Sum}
-use Rattle.algebra.specs.Held.{wordsOf, coefficientsOf, firstTerms}
-use Rattle.answers.specs.Areas.{written, cleared}
+use Rattle.algebra.specs.Held.{wordsOf, coefficientsOf}
+use Rattle.answers.specs.Areas.{written}
 use Rattle.numbers.specs.Item.{Item, Item.got, Item.cut, Item.bad, andThen, provided}
 use Rattle.numbers.specs.Number.{readNumber}
 use Rattle.packed.specs.ReadSum.{readTerms}
-use Rattle.packed.specs.Pack.{goodTerms}
 
 -- ---- A packed sum in two steps.
 
@@ -26,34 +24,8 @@ readRest n count s at = andThen (readTerms n count [] s at) (λ sum end. provide
 
 -- ---- What is left in two areas.
 
--- two arrays that held ws₀ and cs₀ hold the sum, if one was read. Whatever was, only their first `count` places are other than before
-pub record Holds (count : ℕ) (item : Item Sum) (ws₀ : List ℕ) (cs₀ : List ℤ) (ws : List ℕ) (cs : List ℤ) : Type 0 where
-  pub words-kept : ws ≡ written (take count ws) ws₀
-  pub coefficients-kept : cs ≡ written (take count cs) cs₀
-  pub words-are : (s : Sum) (next : ℕ) → item ≡ got s next → ws ≡ written (wordsOf s) ws₀
-  pub coefficients-are : (s : Sum) (next : ℕ) → item ≡ got s next → cs ≡ written (coefficientsOf s) cs₀
-
 -- the number of terms, and the areas with them; on a fault the areas stay
 unfoldable pub readInto : Item Sum → List ℕ → List ℤ → Item ℕ × List ℕ × List ℤ
 readInto (got s next) ws cs = (got (length s) next, written (wordsOf s) ws, written (coefficientsOf s) cs)
 readInto (cut place) ws cs = (cut place, ws, cs)
 readInto (bad place) ws cs = (bad place, ws, cs)
-
--- the same in the caller's own arrays: on a fault the first `count` places are cleared
-unfoldable pub takenInto : ℕ → Item Sum → List ℕ → List ℤ → Item ℕ × List ℕ × List ℤ
-takenInto count (got s next) ws cs = (got (length s) next, written (wordsOf s) ws, written (coefficientsOf s) cs)
-takenInto count (cut place) ws cs = (cut place, cleared 0 count ws, cleared (pos 0) count cs)
-takenInto count (bad place) ws cs = (bad place, cleared 0 count ws, cleared (pos 0) count cs)
-
--- terms were copied, not judged, into the first `count` places of two arrays that held ws₀ and cs₀, and `end` is the place after them; or it is 0. If they were, and all are good, they are the
--- terms that are read there
-pub record Copies (count : ℕ) (s : List ℕ) (at end : ℕ) (ws₀ : List ℕ) (cs₀ : List ℤ) (ws : List ℕ) (cs : List ℤ) : Type 0 where
-  pub words-kept : ws ≡ written (take count ws) ws₀
-  pub coefficients-kept : cs ≡ written (take count cs) cs₀
-  pub are : 0 < end → goodTerms [] (take count ws) (take count cs) ≡ count → readTerms variables count [] s at ≡ got (firstTerms count ws cs) end
-
--- good terms were read into the first `count` places of two arrays that held ws₀ and cs₀, and `end` is the place after them; or it is 0, and only these places are other than before
-pub record Takes (count : ℕ) (s : List ℕ) (at end : ℕ) (ws₀ : List ℕ) (cs₀ : List ℤ) (ws : List ℕ) (cs : List ℤ) : Type 0 where
-  pub words-kept : ws ≡ written (take count ws) ws₀
-  pub coefficients-kept : cs ≡ written (take count cs) cs₀
-  pub are : 0 < end → (got count end, ws, cs) ≡ takenInto count (readTerms variables count [] s at) ws₀ cs₀

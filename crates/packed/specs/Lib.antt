@@ -6,3 +6,4 @@ pub mod Whole
 pub mod Result
 pub mod Unpack
 pub mod Pack
+pub mod Arrays

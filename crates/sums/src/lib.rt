@@ -201,7 +201,8 @@ pub fn product(
     multiply(sp, sc, tp, tc, patterns, coefficients)
 }
 
-// The base is multiplied by itself again and again, with a row for each term of the base. The arrays that a product works in are declared once: to clear them for each would take longer than a small product.
+// The power is multiplied by the base again and again, with a row for each term of the base; with exponent 1 it is the base. The arrays that a product works in are declared once: to clear
+// them for each would take longer than a small product.
 fn repeated(
     sp: &[u64],
     sc: &[i64],
@@ -252,7 +253,7 @@ fn repeated(
     Formed::Terms(n)
 }
 
-// A power with exponent 0 is 1, one of one or two terms needs no products, and a square is one product.
+// A power with exponent 0 is 1. One of a base of one or two terms needs no products, and a square is one product; any other is multiplied by the base again and again.
 pub fn power(
     sp: &[u64],
     sc: &[i64],

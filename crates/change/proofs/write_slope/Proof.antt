@@ -1,10 +1,9 @@
 -- `write_slope` meets its contract: the checks come in 01's order, and the result area is written after the last of them.
 use mathlib.Core.Path.{_≡_, sym, _∙_, ap, subst}
-use Prim.Native.Nat.{ℕ, _≤_}
+use Prim.Native.Nat.{ℕ}
 use native.Mathlib.Omega.{arith}
 use native.Mathlib.Nat.{sub-zero}
 use lib.ListN.{take}
-use Rattle.algebra.specs.Limits.{largestWeight}
 use Rattle.algebra.specs.Sum.{Sum, weight}
 use Rattle.algebra.specs.Slope as algebra
 use Rattle.algebra.specs.Held.{firstTerms}

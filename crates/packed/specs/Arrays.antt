@@ -1,0 +1,39 @@
+-- What the readers of terms leave in two arrays that are their callers' own. For contracts inside the library.
+use mathlib.Core.Path.{_≡_}
+use mathlib.Core.List.{List, []}
+use Prim.Native.Nat.{ℕ, _<_}
+use lib.IntN.{ℤ, pos}
+use lib.ListN.{length, take}
+use Rattle.algebra.specs.Limits.{variables}
+use Rattle.algebra.specs.Sum.{Sum}
+use Rattle.algebra.specs.Held.{wordsOf, coefficientsOf, firstTerms}
+use Rattle.answers.specs.Areas.{written, cleared}
+use Rattle.numbers.specs.Item.{Item, Item.got, Item.cut, Item.bad}
+use Rattle.packed.specs.ReadSum.{readTerms}
+use Rattle.packed.specs.Pack.{goodTerms}
+
+-- arrays that held ws₀ and cs₀ hold the sum, if one was read. Whatever was, only their first `count` places are other than before
+pub record Holds (count : ℕ) (item : Item Sum) (ws₀ : List ℕ) (cs₀ : List ℤ) (ws : List ℕ) (cs : List ℤ) : Type 0 where
+  pub words-kept : ws ≡ written (take count ws) ws₀
+  pub coefficients-kept : cs ≡ written (take count cs) cs₀
+  pub words-are : (s : Sum) (next : ℕ) → item ≡ got s next → ws ≡ written (wordsOf s) ws₀
+  pub coefficients-are : (s : Sum) (next : ℕ) → item ≡ got s next → cs ≡ written (coefficientsOf s) cs₀
+
+-- the number of terms, and the arrays with them; on a fault the first `count` places are cleared
+unfoldable pub takenInto : ℕ → Item Sum → List ℕ → List ℤ → Item ℕ × List ℕ × List ℤ
+takenInto count (got s next) ws cs = (got (length s) next, written (wordsOf s) ws, written (coefficientsOf s) cs)
+takenInto count (cut place) ws cs = (cut place, cleared 0 count ws, cleared (pos 0) count cs)
+takenInto count (bad place) ws cs = (bad place, cleared 0 count ws, cleared (pos 0) count cs)
+
+-- terms were copied, not judged, into the first `count` places of two arrays that held ws₀ and cs₀, and `end` is the place after them; or it is 0. If they were, and all are good, they are the
+-- terms that are read there
+pub record Copies (count : ℕ) (s : List ℕ) (at end : ℕ) (ws₀ : List ℕ) (cs₀ : List ℤ) (ws : List ℕ) (cs : List ℤ) : Type 0 where
+  pub words-kept : ws ≡ written (take count ws) ws₀
+  pub coefficients-kept : cs ≡ written (take count cs) cs₀
+  pub are : 0 < end → goodTerms [] (take count ws) (take count cs) ≡ count → readTerms variables count [] s at ≡ got (firstTerms count ws cs) end
+
+-- good terms were read into the first `count` places of two arrays that held ws₀ and cs₀, and `end` is the place after them; or it is 0, and only these places are other than before
+pub record Takes (count : ℕ) (s : List ℕ) (at end : ℕ) (ws₀ : List ℕ) (cs₀ : List ℤ) (ws : List ℕ) (cs : List ℤ) : Type 0 where
+  pub words-kept : ws ≡ written (take count ws) ws₀
+  pub coefficients-kept : cs ≡ written (take count cs) cs₀
+  pub are : 0 < end → (got count end, ws, cs) ≡ takenInto count (readTerms variables count [] s at) ws₀ cs₀
