@@ -9,6 +9,7 @@ pub mod Substitute
 pub mod Margin
 pub mod Word
 pub mod Rank
+pub mod Either
 pub mod Held
 pub mod Accepted
 pub mod Standing

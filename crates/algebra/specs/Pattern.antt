@@ -3,7 +3,6 @@
 use mathlib.Core.Bool.{Bool, true, false, _&&_}
 use mathlib.Core.List.{List, [], _∷_, _++_}
 use Prim.Native.Nat.{ℕ, suc, _+_, _-_, compare, Ordering, Ordering·lt, Ordering·eq, Ordering·gt}
-use lib.Bits.{bitOr}
 use lib.Dec.{eqb}
 use lib.ListN.{length, getD, set, replicate}
 
@@ -23,12 +22,6 @@ unfoldable pub times : Pattern → Pattern → Pattern
 times [] q = q
 times (e ∷ p) [] = e ∷ p
 times (e ∷ p) (f ∷ q) = (e + f) ∷ times p q
-
--- exponent by exponent, the bits of either: no less than any of both
-unfoldable pub either : Pattern → Pattern → Pattern
-either [] q = q
-either (e ∷ p) [] = e ∷ p
-either (e ∷ p) (f ∷ q) = bitOr e f ∷ either p q
 
 -- the total degree: the exponents added
 unfoldable pub degree : Pattern → ℕ

@@ -3,7 +3,8 @@ ghost use mathlib.Core.Path.{_≡_};
 ghost use Prim.Native.Nat.{_+_, _*_, _-_, _≤_, _<_};
 ghost use lib.ListN.{set};
 ghost use Rattle.algebra.specs.Limits.{variables, largestDegree, mostTerms, largestWeight, mostNodes, workPlaces};
-ghost use Rattle.algebra.specs.Pattern.{emptyPattern, times, either, degree, exponent, lowered, without, order};
+ghost use Rattle.algebra.specs.Either.{either};
+ghost use Rattle.algebra.specs.Pattern.{emptyPattern, times, degree, exponent, lowered, without, order};
 ghost use Rattle.algebra.specs.Word.{word, exponents, Valid};
 ghost use Rattle.algebra.specs.Rank.{rankOf, wordAt};
 ghost use Rattle.algebra.specs.Standing.{standing};
@@ -109,7 +110,7 @@ impl Pattern {
         Pattern(self.0 + other.0)
     }
 
-    // The bits of either: no exponent of both is larger. It asks for no valid patterns: no bit leaves its byte.
+    // A pattern in which no exponent is smaller than in the two: the bits that either has. It asks for no valid patterns: no bit leaves its byte.
     pub fn either(self, other: Pattern) -> Pattern
         ensures { λ r. ⌜ r .0 ≡ word (either (exponents (self .0)) (exponents (other .0))) ⌝ }
     {

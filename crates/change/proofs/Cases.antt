@@ -1,4 +1,4 @@
--- Cases of document 01 about slopes and substitutions, and some beside them: one table, which the checker computes.
+-- Slopes and substitutions, beside the cases of document 01 (which are in `promises`): one table, which the checker computes.
 use mathlib.Core.Path.{_≡_, refl}
 use mathlib.Core.List.{List, [], _∷_, _++_}
 use Prim.Native.Nat.{ℕ, zero, suc, _-_}
@@ -33,8 +33,6 @@ pub data Case : Type 0 where
   slopes : List ℕ → ℕ → Judged (List ℕ) → Case
   -- a list put in
   puts : List ℕ → List ℕ → Judged (List ℕ) → Case
-  -- a list put in, and then the slope by a variable
-  putsThenSlopes : List ℕ → List ℕ → ℕ → Judged (List ℕ) → Case
 
 abbrev pub bytesOf : Judged Sum → Judged (List ℕ)
 bytesOf (good s) = good (packed s)
@@ -43,7 +41,6 @@ bytesOf (fails refusal place) = fails refusal place
 abbrev pub Says : Case → Type 0
 Says (slopes bytes v gives) = bytesOf (andThen (judged SUM (readWhole variables bytes)) (judgeSlope v)) ≡ gives
 Says (puts bytes list gives) = bytesOf (judgeSubstitute bytes list) ≡ gives
-Says (putsThenSlopes bytes list v gives) = bytesOf (andThen (judgeSubstitute bytes list) (judgeSlope v)) ≡ gives
 
 -- ---- Short names. A coefficient stands as its code: 2n for n from 0 up, and −2n − 1 for n below.
 
@@ -69,19 +66,10 @@ aSquared : List ℕ
 unfolding two
 aSquared = 1 ∷ two 2 2 0
 
-twiceA : List ℕ
-unfolding two
-twiceA = 1 ∷ two 4 1 0
-
 -- (a+b)^2-b^2
 square : List ℕ
 unfolding two
 square = 2 ∷ two 2 2 0 ++ two 4 1 1
-
--- b := 0
-noB : List ℕ
-unfolding nothing
-noB = 1 ∷ 1 ∷ nothing
 
 -- every letter, and its cube: any two of these sixteen have a product of their own
 every : ℕ → List ℕ
@@ -101,17 +89,10 @@ column (suc k) = two 2 1 (suc k) ++ column k
 -- ---- The table.
 
 pub table : List Case
-unfolding two alone nothing heaviest half aSquared twiceA square noB every sixteen column
+unfolding two alone nothing heaviest half aSquared square every sixteen column
 table =
-    -- (a+b)^2-b^2 has the slope 2a + 2b by a, and zero by c
-    slopes square 0 (good (2 ∷ two 4 1 0 ++ two 4 0 1))
-    ∷ slopes square 2 (good nothing)
-    -- with b := 0 it is a², whose slope by b is zero; the slope by b first is 2a
-    ∷ puts square noB (good aSquared)
-    ∷ putsThenSlopes square noB 1 (good nothing)
-    ∷ slopes square 1 (good twiceA)
     -- a term without the variable has the pattern of another's slope: ab + a by b is a
-    ∷ slopes (2 ∷ two 2 1 1 ++ two 2 1 0) 1 (good (1 ∷ two 2 1 0))
+    slopes (2 ∷ two 2 1 1 ++ two 2 1 0) 1 (good (1 ∷ two 2 1 0))
     -- there is no variable 8, and a bad sum comes before that
     ∷ slopes square 8 (fails VARIABLE 0)
     ∷ slopes (square ++ nothing) 8 (fails SUM 19)
@@ -153,10 +134,9 @@ table =
     ∷ []
 
 pub cases-hold : Each Says table
-unfolding table two alone nothing heaviest half aSquared twiceA square noB every sixteen column times degree same thenBy byPowers order degreeOf weight place insert gather keep dropZeros collect occurs countNew spread row pairs _⊗_ productSpread power powerSpread slope rows pairRows substitute pairDegree pairWeight largestPower pairSpread holding andThen item.andThen item.provided item.mapped groupsOf numberBytes readByte readGroups readNumber code decode exponentBytes termBytes bytesOfTerms packed weighs follows readCoefficient readExponents readTerm readTerms readSum readWhole judgeSlope listing.andThen listing.provided listing.mapped readPairs toTheEnd readList judgePair judgePairs judgeSubstitute
+unfolding table two alone nothing heaviest half aSquared square every sixteen column times degree same thenBy byPowers order degreeOf weight place insert gather keep dropZeros collect occurs countNew spread row pairs _⊗_ productSpread power powerSpread slope rows pairRows substitute pairDegree pairWeight largestPower pairSpread holding andThen item.andThen item.provided item.mapped groupsOf numberBytes readByte readGroups readNumber code decode exponentBytes termBytes bytesOfTerms packed weighs follows readCoefficient readExponents readTerm readTerms readSum readWhole judgeSlope listing.andThen listing.provided listing.mapped readPairs toTheEnd readList judgePair judgePairs judgeSubstitute
 cases-hold =
-    refl also refl also refl also refl also refl
-    also refl also refl also refl
+    refl also refl also refl
     also refl also refl also refl
     also refl also refl also refl
     also refl also refl

@@ -1,4 +1,4 @@
--- Cases of document 01 about formula tables: one table, which the checker computes.
+-- Formula tables at their limits, beside the cases of document 01 (which are in `promises`): one table, which the checker computes.
 use mathlib.Core.Path.{_≡_, refl}
 use mathlib.Core.List.{List, [], _∷_, _++_}
 use Prim.Native.Nat.{ℕ, _-_, _^_}
@@ -93,27 +93,16 @@ largest = 2 ^ 62
 pub table : List Case
 unfolding packs stops unshaped broken a b minusOne none nothing tall rectangle ones largest tableOf
 table =
-    -- 0^0 and (a-a)^0 are 1, and a-a is zero
-    packs (integer (pos 0) ∷ power 0 0 ∷ []) (1 ∷ 2 ∷ none 8)
-    ∷ packs (nothing ++ (power 4 0 ∷ [])) (1 ∷ 2 ∷ none 8)
-    ∷ packs nothing (0 ∷ [])
-    -- (a+b)^2-b^2, and a+a with one node for a
-    ∷ packs
-    (a ∷ b ∷ sum 0 1 ∷ power 2 2 ∷ b ∷ power 4 2 ∷ minusOne ∷ product 6 5 ∷ sum 3 7 ∷ [])
-    (2 ∷ 2 ∷ 2 ∷ 0 ∷ 0 ∷ 0 ∷ 0 ∷ 0 ∷ 0 ∷ 0 ∷ 4 ∷ 1 ∷ 1 ∷ 0 ∷ 0 ∷ 0 ∷ 0 ∷ 0 ∷ 0 ∷ [])
-    ∷ packs (a ∷ sum 0 0 ∷ []) (1 ∷ 4 ∷ 1 ∷ none 7)
-    -- 2^62 and -2^62, 4611686018427387904+1-1, 0*4611686018427387904, and -2^63, which is no bad node
+    -- a+a with one node for a
+    packs (a ∷ sum 0 0 ∷ []) (1 ∷ 4 ∷ 1 ∷ none 7)
+    -- 2^62 and -2^62, and -2^63, which is no bad node
     ∷ packs (integer (pos largest) ∷ []) (1 ∷ replicate 9 128 ++ (1 ∷ none 8))
     ∷ packs (integer (negsuc (largest - 1)) ∷ []) (1 ∷ replicate 8 255 ++ (127 ∷ none 8))
-    ∷ stops (integer (pos largest) ∷ integer (pos 1) ∷ sum 0 1 ∷ integer (pos 1) ∷ minusOne ∷ product 4 3 ∷ sum 2 5 ∷ []) WEIGHT 2
-    ∷ packs (integer (pos 0) ∷ integer (pos largest) ∷ product 0 1 ∷ []) (0 ∷ [])
     ∷ stops (integer (negsuc (2 ^ 63 - 1)) ∷ []) WEIGHT 0
     -- (2^61-2^61)*2 and 0^0*2^62+1: the weights are formal, that of zero here 2^62, and that of 0^0 is 1
     ∷ stops (integer (pos (2 ^ 61)) ∷ minusOne ∷ product 1 0 ∷ sum 0 2 ∷ integer (pos 2) ∷ product 3 4 ∷ []) WEIGHT 5
     ∷ stops (integer (pos 0) ∷ power 0 0 ∷ integer (pos largest) ∷ product 1 2 ∷ integer (pos 1) ∷ sum 3 4 ∷ []) WEIGHT 5
-    -- a^60, a^60*a, and (a-a)*a^60: the degree is formal, that of zero here 1
-    ∷ packs tall (1 ∷ 2 ∷ 60 ∷ none 7)
-    ∷ stops (tall ++ (a ∷ product 1 2 ∷ [])) DEGREE 3
+    -- (a-a)*a^60: the degree is formal, that of zero here 1
     ∷ stops (nothing ++ (a ∷ power 5 60 ∷ product 4 6 ∷ [])) DEGREE 7
     -- (1+a)^7*(1+b)^15 has 128 patterns (it is then taken 0 times), and (1+a)^2*(1+b)^42 has 129
     ∷ packs (rectangle 7 15 ++ (integer (pos 0) ∷ product 7 8 ∷ [])) (0 ∷ [])
@@ -142,10 +131,10 @@ table =
 pub cases-hold : Each Says table
 unfolding table packs stops unshaped broken a b minusOne none nothing tall rectangle ones largest tableOf isIn readKind readNode holding andThen judgeNode judgeNodes isShape judgeTable formalDegree formalWeight nodeSpread nodeSum times degree same thenBy byPowers order place insert gather keep dropZeros collect occurs countNew spread arithmetic.integer arithmetic.variable row pairs _⊕_ sumSpread _⊗_ productSpread arithmetic.power powerSpread groupsOf numberBytes code exponentBytes termBytes bytesOfTerms packed
 cases-hold =
-    refl also refl also refl also refl also refl
-    also refl also refl also refl also refl also refl
-    also refl also refl
+    refl
     also refl also refl also refl
+    also refl also refl
+    also refl
     also refl also refl
     also refl also refl also refl also refl also refl
     also refl also refl also refl also refl also refl also refl

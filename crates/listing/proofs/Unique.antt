@@ -4,9 +4,13 @@ use Rattle.answers.proofs.Outcomes.{One, OneLent, same}
 use Rattle.answers.proofs.Unique.{outcome-one}
 use Rattle.listing.proofs.list.Reads as list
 use Rattle.listing.proofs.most_input.Reads as most-input
+use Rattle.listing.proofs.lines.write_bytes.Reads as write-bytes
 
 pub most-input-one : One most-input.Learnt
 most-input-one k a r r' e e' h h' = same h h'
 
 pub list-one : OneLent list.Learnt (λ k e. now (e .1 .0))
 list-one k a r r' e e' h h' = outcome-one r r' (same h h')
+
+pub write-bytes-one : OneLent write-bytes.Learnt (λ k e. now (e .0))
+write-bytes-one k a r r' e e' h h' = (same (h .0) (h' .0), same (h .1) (h' .1))

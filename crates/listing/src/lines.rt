@@ -13,7 +13,8 @@ ghost use Rattle.answers.specs.Areas.{written};
 ghost use Rattle.listing.specs.Decimal.{decimal};
 ghost use Rattle.listing.specs.Lines.{exponentsLine, termLine, sumLines, refusalLine};
 
-fn write_bytes(area: &mut [u8], at: usize, bytes: &[u8]) -> usize
+// The bytes at a place of the area, as they are.
+pub fn write_bytes(area: &mut [u8], at: usize, bytes: &[u8]) -> usize
     requires { ⌜ at + length (now bytes) ≤ length (now area) ⌝ }
     ensures { λ r. ⌜ r ≡ at + length (now (bytes .entry)) ⌝ }
     ensures { λ r. ⌜ now (area .exit) ≡ sets (now (area .entry)) at (now (bytes .entry)) ⌝ }

@@ -8,7 +8,7 @@ use lib.IntN.{ℤ, pos, natAbs, _+ℤ_}
 use lib.ListN.{length, getD, set, length-append, length-map}
 use mir.Syntax.{w64}
 use mir.Val.{SFits}
-use Rattle.algebra.specs.Limits.{mostTerms, largestWeight, workPlaces}
+use Rattle.algebra.specs.Limits.{mostTerms, largestWeight}
 use Rattle.algebra.specs.Pattern.{Pattern, order}
 use Rattle.algebra.specs.Sum.{Term, term, Sum, isZero, weight}
 use Rattle.algebra.specs.Arithmetic.{_⊕_, sumSpread}

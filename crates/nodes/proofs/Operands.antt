@@ -1,5 +1,5 @@
 -- The terms of an earlier node, as they are read in the work areas.
-use mathlib.Core.Path.{_≡_, sym, _∙_, ap, ap₂, subst}
+use mathlib.Core.Path.{_≡_, sym, _∙_, ap₂, subst}
 use mathlib.Core.List.{List}
 use Prim.Native.Nat.{ℕ, _+_, _*_, _≤_, _<_}
 use native.Mathlib.Omega.{arith}
@@ -7,7 +7,7 @@ use lib.Dec.{T}
 use lib.IntN.{ℤ, pos, natAbs}
 use lib.ListN.{length, getD, take, drop}
 use lib.Seq.{length-take-le, getD-take, getD-drop}
-use Rattle.algebra.specs.Limits.{variables, mostTerms, mostNodes, workPlaces}
+use Rattle.algebra.specs.Limits.{variables, mostTerms}
 use Rattle.algebra.specs.Pattern.{degree}
 use Rattle.algebra.specs.Sum.{term, inOrder, noZero, degreeOf, weight}
 use Rattle.algebra.specs.Word.{exponents, Valid}
@@ -16,7 +16,7 @@ use Rattle.algebra.proofs.Patterns.Word.{exponents-length}
 use Rattle.algebra.proofs.Sums.Held.{word-for}
 use Rattle.algebra.proofs.Sums.Ordered.{parts}
 use Rattle.sums.specs.Part.{part}
-use Rattle.sums.proofs.Holding.{as-many, terms-many, term-at, degree-at, size-at, each-valid}
+use Rattle.sums.proofs.Holding.{terms-many, term-at, degree-at, size-at, each-valid}
 use Rattle.sums.proofs.Merging.{none}
 use Rattle.sums.proofs.Parts.{part-length}
 use Rattle.nodes.specs.Direct.{sumIn, Operand, Place}

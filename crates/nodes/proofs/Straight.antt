@@ -5,9 +5,9 @@ use mathlib.Core.List.{List, [], _++_}
 use Prim.Native.Nat.{ℕ, _+_, _*_, _≤_, _<_}
 use native.Mathlib.Omega.{arith}
 use native.Mathlib.Nat.{mul-comm}
-use lib.Dec.{T, leb, leb→le}
+use lib.Dec.{leb, leb→le}
 use lib.IntN.{ℤ}
-use lib.ListN.{length, getD, length-append}
+use lib.ListN.{getD, length-append}
 use Rattle.algebra.specs.Limits.{largestDegree, mostTerms, largestWeight}
 use Rattle.algebra.specs.Sum.{Sum, degreeOf, weight}
 use Rattle.algebra.specs.Arithmetic.{_⊕_, sumSpread, _⊗_, productSpread}

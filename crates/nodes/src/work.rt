@@ -5,16 +5,12 @@ use algebra::MOST_TERMS;
 use answers::areas;
 use sums::Formed;
 ghost use mathlib.Core.Path.{_≡_};
-ghost use mathlib.Core.List.{map};
 ghost use Prim.Native.Nat.{_+_, _*_, _≤_, _<_};
 ghost use lib.ListN.{length, getD, take};
-ghost use Rattle.algebra.specs.Limits.{largestDegree, mostTerms, largestWeight, mostNodes, workPlaces};
-ghost use Rattle.algebra.specs.Sum.{degreeOf, weight};
+ghost use Rattle.algebra.specs.Limits.{mostTerms};
 ghost use Rattle.answers.specs.Areas.{written};
-ghost use Rattle.sums.specs.Held.{Held};
 ghost use Rattle.sums.specs.Formed.{formedOf};
 ghost use Rattle.nodes.specs.Node.{kindOf, Kind.sum, Kind.product, Kind.power};
-ghost use Rattle.nodes.specs.Formal.{formalDegree, formalWeight};
 ghost use Rattle.sums.specs.Part.{part};
 ghost use Rattle.nodes.specs.Work.{sumsAt, nodeFormed, Ready, FormedAt};
 

@@ -1,12 +1,12 @@
 -- What an operation says that it wrote stands within its area.
-use mathlib.Core.Path.{_≡_, refl, sym, ap, _∙_}
+use mathlib.Core.Path.{_≡_, refl, ap, _∙_}
 use mathlib.Core.Bool.{Bool, true, false, _&&_}
 use mathlib.Core.List.{List, []}
 use Prim.Native.Nat.{ℕ, _*_, _≤_}
 use native.Mathlib.Omega.{arith}
 use lib.Dec.{eqb, leb}
 use lib.IntN.{ℤ, pos}
-use lib.ListN.{length, drop, take, length-append, length-map, length-drop}
+use lib.ListN.{length, drop, take, length-append, length-map}
 use borrow.Author.Tests.{eqb-true, leb-true}
 use Rattle.algebra.specs.Limits.{variables, mostTerms, workPlaces}
 use Rattle.algebra.specs.Sum.{Sum}
@@ -26,7 +26,7 @@ use Rattle.formula.specs.Simplify.{tableSum, simplify}
 use Rattle.formula.proofs.Passing.{table-length}
 use Rattle.change.specs.Slope.{slope}
 use Rattle.change.specs.Substitute.{judgeSubstitute, substitute}
-use Rattle.router.specs.Estimate.{Estimate, judgeEstimate, answerBytes, answerOf, answerInto, estimate, hostUnit}
+use Rattle.router.specs.Estimate.{judgeEstimate, answerBytes, answerInto, estimate, hostUnit}
 use Rattle.nodes.specs.Node.{tableOf}
 use Rattle.text.specs.Tree.{Tree, nodesOf}
 use Rattle.text.specs.Limits.{tablePlaces}

@@ -1,8 +1,8 @@
--- Cases of document 01 about the estimate, and some beside them: one table, which the checker computes.
+-- Estimates, beside the cases of document 01 (which are in `promises`): one table, which the checker computes.
 use mathlib.Core.Path.{_≡_, refl}
 use mathlib.Core.Bool.{Bool, true, false, _&&_}
 use mathlib.Core.List.{List, [], _∷_, _++_}
-use Prim.Native.Nat.{ℕ, _-_, _*_, _^_}
+use Prim.Native.Nat.{ℕ, _-_}
 use lib.Dec.{leb}
 use lib.IntN.{ℤ, pos, negsuc, natAbs, one, pow, _+ℤ_, _-ℤ_}
 use lib.ListN.{length, replicate}
@@ -85,10 +85,6 @@ square = 2 ∷ two 2 2 0 ++ two 4 1 1
 fives : ℕ → List ℕ
 fives n = replicate n 5
 
--- 2^32·a²; and with 1 added
-large : List ℕ
-large = 128 ∷ 128 ∷ 128 ∷ 128 ∷ 32 ∷ 2 ∷ replicate 7 0
-
 -- the code of 2^62, of −2^62
 heaviest : List ℕ
 heaviest = replicate 9 128 ++ (1 ∷ [])
@@ -105,20 +101,14 @@ ab m n = m ∷ n ∷ []
 -- ---- The table.
 
 pub table : List Case
-unfolding two square fives large heaviest lowest a ab
+unfolding two square fives heaviest lowest a ab
 table =
-    -- a = 10 and b = 3, within 1 and 2: estimate 160, margin 71, reached at 11 and 5
-    gives square (ab (pos 10) (pos 3)) (ab (pos 1) (pos 2)) (good (pos 160, 71))
-    ∷ reaches square (ab (pos 10) (pos 3)) (ab (pos 1) (pos 2)) (ab (pos 11) (pos 5)) (pos 231)
-    ∷ leaves square (ab (pos 10) (pos 3)) (ab (pos 1) (pos 2)) (fives 18) (160 ∷ replicate 7 0 ++ (71 ∷ replicate 7 0) ++ fives 2) 16
-    -- a² at −3, within 1
-    ∷ gives (1 ∷ two 2 2 0) (a (negsuc 2)) (a (pos 1)) (good (pos 9, 7))
+    -- what is left in an area of 18 bytes where estimate and margin are 160 and 71
+    leaves square (ab (pos 10) (pos 3)) (ab (pos 1) (pos 2)) (fives 18) (160 ∷ replicate 7 0 ++ (71 ∷ replicate 7 0) ++ fives 2) 16
+    -- the margin of a² at −3, within 1, is reached at −4
     ∷ reaches (1 ∷ two 2 2 0) (a (negsuc 2)) (a (pos 1)) (a (negsuc 3)) (pos 16)
     -- a² − 2a at 1, within 1: signs are dropped, so the margin is 5 although no truth is further off than 1
     ∷ gives (2 ∷ two 2 2 0 ++ two 3 1 0) (a (pos 1)) (a (pos 1)) (good (negsuc 0, 5))
-    -- 2^32·a² at 32767, within 1, is raised to 2^62; with 1 more it is refused
-    ∷ gives (1 ∷ large) (a (pos 32767)) (a (pos 1)) (good (pos (2 ^ 32 * 32767 ^ 2), 2 ^ 62 - 2 ^ 32 * 32767 ^ 2))
-    ∷ gives (2 ∷ large ++ two 2 0 0) (a (pos 32767)) (a (pos 1)) (fails RANGE 0)
     -- a^59·b, and a·b^59: a large power counts nothing beside a reading that is 0 for sure, and too much where that may be 1
     ∷ gives (1 ∷ two 2 59 1) (ab (pos 32767) (pos 0)) (ab (pos 32767) (pos 0)) (good (pos 0, 0))
     ∷ gives (1 ∷ two 2 1 59) (ab (pos 0) (pos 32767)) (ab (pos 0) (pos 1)) (good (pos 0, 0))
@@ -147,10 +137,10 @@ table =
     ∷ []
 
 pub cases-hold : Each Says table
-unfolding table spelled two square fives large heaviest lowest a ab degree thenBy byPowers order weight total patternValue value patternSize size unsigned raisedBy margin pow one holding andThen item.andThen item.provided item.mapped readByte readGroups readNumber decode weighs follows readCoefficient readExponents readTerm readTerms readSum readWhole plainNumber signedNumber plainBytes signedBytes numbersOf beforeNegative judgeReadings judgeRange judgeTerms judgeEstimate answerInto estimate
+unfolding table spelled two square fives heaviest lowest a ab degree thenBy byPowers order weight total patternValue value patternSize size unsigned raisedBy margin pow one holding andThen item.andThen item.provided item.mapped readByte readGroups readNumber decode weighs follows readCoefficient readExponents readTerm readTerms readSum readWhole plainNumber signedNumber plainBytes signedBytes numbersOf beforeNegative judgeReadings judgeRange judgeTerms judgeEstimate answerInto estimate
 cases-hold =
-    refl also (refl, (refl, refl)) also refl also refl also (refl, (refl, refl))
-    also refl also refl also refl also refl also refl
+    refl also (refl, (refl, refl))
+    also refl also refl also refl
     also refl also refl also refl also refl also refl
     also refl also refl also refl also refl also refl
     also refl also refl also refl also refl also refl

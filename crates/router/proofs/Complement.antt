@@ -123,7 +123,3 @@ module _ (bytes : List ℕ) (are : Bytes bytes) where
       by-half (λ z. signedBytes (length bytes) z ≡ bytes)
       (λ h. plain-again bytes are)
       (λ up below. let is : all - suc (all - suc n) ≡ n = omega arith in ap (plainBytes (length bytes)) is ∙ plain-again bytes are)
-
-  -- what bytes say is at home in as many bytes
-  pub number-home : AtHome (length bytes) (signedNumber bytes)
-  number-home = by-half (AtHome (length bytes)) (λ h. h) (λ up below. omega arith)

@@ -11,13 +11,12 @@ use lib.IntN.{ℤ, pos, one, natAbs, _*ℤ_, pow}
 use lib.ListN.{length, getD, set}
 use mir.Syntax.{w64}
 use mir.Val.{SFits}
-use Rattle.algebra.specs.Limits.{variables, mostTerms, largestWeight}
+use Rattle.algebra.specs.Limits.{variables, largestWeight}
 use Rattle.algebra.specs.Pattern.{degree}
 use Rattle.algebra.specs.Sum.{Term, term, Sum, isZero, ahead, inOrder, noZero, weight}
 use Rattle.algebra.specs.Collect.{gather, dropZeros, collect}
 use Rattle.algebra.specs.Arithmetic.{timesTerm, row, pairs, _⊗_, productSpread, power, powerSpread}
 use Rattle.algebra.specs.Word.{word, exponents, wordOf, fieldSize, termsBy, terms}
-use Rattle.algebra.specs.Held.{wordFor}
 use Rattle.algebra.proofs.Numbers.Absolute.{abs-mul, abs-pow, times-some}
 use Rattle.algebra.proofs.Numbers.Test.{and}
 use Rattle.algebra.proofs.Numbers.Whole.{one-*ℤ}
@@ -25,7 +24,6 @@ use Rattle.algebra.proofs.Patterns.Fields.{word-times, word-most}
 use Rattle.algebra.proofs.Patterns.Laws.{times-length}
 use Rattle.algebra.proofs.Patterns.Word.{exponents-length}
 use Rattle.algebra.proofs.Sums.Every.{Every, Long}
-use Rattle.algebra.proofs.Sums.Held.{word-for}
 use Rattle.algebra.proofs.Sums.Occurs.{spread-gather}
 use Rattle.algebra.proofs.Sums.Ordered.{full-head, full-tail, row-order, gather-fixed, drop-fixed}
 use Rattle.answers.proofs.Signed.{fits-abs}

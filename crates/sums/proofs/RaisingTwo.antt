@@ -1,20 +1,18 @@
 -- What the loop of `raise` keeps: the coefficients of the k-th power of two terms stand in the first places; and what it answers.
 use mathlib.Core.Path.{_≡_, refl, sym, _∙_, ap, ap₂}
 use mathlib.Core.List.{List, [], _∷_}
-use Prim.Native.Nat.{ℕ, zero, suc, _+_, _*_, _-_, _^_, _≤_, _<_}
+use Prim.Native.Nat.{ℕ, _+_, _*_, _-_, _^_, _≤_, _<_}
 use native.Mathlib.Omega.{arith}
-use native.Mathlib.Nat.{le-trans, mul-le-mul-left, mul-le-mul-right, pow-le-pow-left, pow-le-pow-right}
+use native.Mathlib.Nat.{pow-le-pow-left, pow-le-pow-right}
 use lib.Dec.{T, ltb, ltb→lt, nltb→le}
 use mathlib.Core.Bool.{Bool, true, false, not}
 use lib.IntN.{ℤ, pos, natAbs}
-use lib.ListN.{length, getD, take, set, length-set, length-map}
-use Rattle.algebra.specs.Limits.{variables, largestDegree, mostTerms, largestWeight}
-use Rattle.algebra.specs.Pattern.{degree}
-use Rattle.algebra.specs.Sum.{Term, term, Sum, inOrder, noZero, ordered, degreeOf, weight}
+use lib.ListN.{length, getD, take, set, length-map}
+use Rattle.algebra.specs.Limits.{variables, mostTerms, largestWeight}
+use Rattle.algebra.specs.Sum.{Term, term, Sum, ordered, weight}
 use Rattle.algebra.specs.Arithmetic.{power, powerSpread}
-use Rattle.algebra.specs.Word.{word, wordOf, fieldSize, exponents, termsBy, terms}
+use Rattle.algebra.specs.Word.{exponents, termsBy, terms}
 use Rattle.algebra.specs.Held.{wordFor, wordsOf, coefficientsOf}
-use Rattle.algebra.proofs.Patterns.Fields.{word-most}
 use Rattle.algebra.proofs.Patterns.Word.{exponents-length}
 use Rattle.algebra.proofs.Sums.Held.{word-for, terms-long}
 use Rattle.algebra.proofs.Sums.Ordered.{whole}
@@ -24,8 +22,7 @@ use Rattle.answers.proofs.Writes.{written-front, written-over}
 use Rattle.sums.specs.Asked.{Base}
 use Rattle.sums.specs.Binomial.{stepped, sizes, mixed}
 use Rattle.sums.specs.Formed.{Formed.formed, powerOf, formedInto}
-use Rattle.sums.specs.Held.{Held}
-use Rattle.sums.proofs.Holding.{as-many, degree-at, each-valid}
+use Rattle.sums.proofs.Holding.{as-many, each-valid}
 use Rattle.sums.proofs.Forming.{within-yes}
 use Rattle.sums.proofs.Raising.{heavier}
 use Rattle.sums.proofs.TwoTerms.{two-coefficients, two-words, two-spread, two-length, some-x, some-y}

@@ -2,7 +2,7 @@
 use mathlib.Core.Path.{_≡_, refl, sym, _∙_, ap, ap₂}
 use mathlib.Core.Bool.{Bool, true, false, not, _||_}
 use mathlib.Core.List.{List, [], _∷_, map}
-use Prim.Native.Nat.{ℕ, zero, suc, _+_, _*_, max, _≤_, _<_, Ordering·lt}
+use Prim.Native.Nat.{ℕ, zero, suc, _+_, _*_, _≤_, _<_, Ordering·lt}
 use native.Mathlib.Omega.{arith}
 use native.Mathlib.Numerals.{add-one}
 use native.Mathlib.Nat.{max-le}
@@ -12,7 +12,7 @@ use lib.ListN.{length, length-map}
 use Rattle.algebra.specs.Limits.{variables}
 use Rattle.algebra.specs.Pattern.{Pattern, times, same, order}
 use Rattle.algebra.specs.Sum.{Term, term, Sum, isZero, ahead, inOrder, noZero, ordered}
-use Rattle.algebra.specs.Collect.{collect, occurs, spread}
+use Rattle.algebra.specs.Collect.{occurs}
 use Rattle.algebra.specs.Arithmetic.{timesTerm, row, pairs, _⊗_, productSpread, power, powerSpread}
 use Rattle.algebra.specs.Word.{word, fieldSize}
 use Rattle.algebra.specs.Held.{wordFor, wordsOf, coefficientsOf}

@@ -1,13 +1,11 @@
 -- The degree of any word, by lanes of two fields: the lower field of each lane is masked out, the lanes add up, and the remainder adds the lanes up.
 use mathlib.Core.Path.{_≡_, refl, sym, _∙_, ap, ap₂}
-use mathlib.Core.List.{List, [], _∷_, map}
-use Prim.Native.Nat.{ℕ, zero, suc, _+_, _*_, _^_, _/_, _%_, _-_, _≤_, _<_}
+use mathlib.Core.List.{[], _∷_, map}
+use Prim.Native.Nat.{ℕ, _+_, _*_, _^_, _/_, _%_, _-_, _≤_, _<_}
 use native.Mathlib.Omega.{arith}
 use native.Mathlib.Nat.{div-div-eq-div-mul}
 use lib.Bits.{bitAnd, and-zero-l, and-mask, and-block}
 use lib.ListN.{length, length-map}
-use lib.Pow.{pow-add}
-use Rattle.algebra.specs.Limits.{variables}
 use Rattle.algebra.specs.Pattern.{Pattern, times, degree}
 use Rattle.algebra.specs.Word.{wordOf, fieldsOf, exponents}
 use Rattle.algebra.proofs.Patterns.Laws.{degree-times}

@@ -12,7 +12,7 @@ use Rattle.algebra.specs.Limits.{variables, largestDegree}
 use Rattle.algebra.specs.Pattern.{Pattern, emptyPattern, times, degree, exponent, lowered, without, thenBy, order}
 use Rattle.algebra.specs.Word.{fieldSize, wordOf, word, exponents, isValid, Valid}
 use Rattle.algebra.proofs.Numbers.Test.{and, and-l, and-r}
-use Rattle.algebra.proofs.Patterns.Laws.{times-length, degree-times, empty-degree, set-degree, alone-length, without-times, without-degree}
+use Rattle.algebra.proofs.Patterns.Laws.{times-length, degree-times, empty-degree, alone-length, without-times, without-degree}
 use Rattle.algebra.proofs.Patterns.Fields.{Below, below-degree, fields-below, fields-length, word-lt, word-most, fields-word, word-fields-lt, field-at, place-bits, word-zero, word-alone, word-times, word-degree, order-word, word-lowered}
 
 -- ---- There and back.
@@ -153,12 +153,6 @@ module _ (w v : ℕ) (inside : v < variables) where
   unfolding exponents
   exponent-bits = rw (← place v inside) (field-at fieldSize variables w v inside)
 
-  pub lowered-valid : Valid w → Valid (word (lowered v (exponents w)))
-  lowered-valid a =
-      word-valid (lowered v (exponents w))
-      (length-set (exponents w) v (exponent v (exponents w) - 1) ∙ exponents-length w)
-      (omega (arith, a .low, set-degree v (exponent v (exponents w) - 1) (exponents w) (omega arith)))
-
   -- one power less takes the value of one place away
   pub lowered-some : Valid w → 0 < exponent v (exponents w) → word (lowered v (exponents w)) + 2 ^ bitsBelow v ≡ w
   unfolding word
@@ -183,7 +177,3 @@ module _ (w v : ℕ) (inside : v < variables) where
       let alone = set (emptyPattern variables) v (exponent v (exponents w)) in
       let alike = length-set (exponents w) v 0 ∙ long ∙ sym (alone-length variables v (exponent v (exponents w))) in
       sym (word-times fieldSize (without v (exponents w)) alone alike) ∙ ap word (without-times variables v (exponents w) long inside) ∙ a .is
-
--- any word's exponents are bytes
-pub exponent-small : (w v : ℕ) → v < variables → exponent v (exponents w) ≤ 255
-exponent-small w v inside = rw (exponent-bits w v inside) (omega arith)

@@ -41,10 +41,6 @@ zero-counts (zero ∷ p) (b ∷ y) zero h is-zero occurs = absurd (omega arith)
 zero-counts (suc e ∷ p) (b ∷ y) zero h is-zero occurs = rw (pow-suc b e, is-zero) (omega arith)
 zero-counts (e ∷ p) (b ∷ y) (suc i) h is-zero occurs = rw (zero-counts p y i (omega arith) is-zero occurs) (omega arith)
 
-pub zero-term : (t : Term) (y : List ℕ) (i : ℕ) → i < length y → getD y i 0 ≡ 0 → 0 < exponent i (t .pattern)
-    → natAbs (t .coefficient) * patternSize (t .pattern) y ≡ 0
-zero-term t y i h is-zero occurs = rw (zero-counts (t .pattern) y i h is-zero occurs) (omega arith)
-
 -- ---- Readings without signs, and raised ones, place by place.
 
 -- without signs there are as many, and raised ones too
@@ -143,10 +139,6 @@ within-self (a ∷ r) (b ∷ t) h = more {x = a} {r = a} {t = b} (rw (+ℤ-invr 
 pub margin-law : (s : Sum) {x r : List ℤ} {t : List ℕ} → Within x r t → natAbs (value s x -ℤ value s r) ≤ margin s r t
 unfolding margin
 margin-law s w = omega (arith, near-value s w .apart)
-
--- the true value itself is at most the raised value
-pub value-raised : (s : Sum) {x r : List ℤ} {t : List ℕ} → Within x r t → natAbs (value s x) ≤ size s (raisedBy r t)
-value-raised s w = near-large (near-value s w)
 
 -- nothing is lost in the difference: the plain value and the margin make up the raised value
 pub margin-whole : (s : Sum) (r : List ℤ) (t : List ℕ) → length r ≡ length t → size s (unsigned r) + margin s r t ≡ size s (raisedBy r t)

@@ -1,11 +1,9 @@
 -- `replay` meets its contract, piece by piece.
-use mathlib.Core.Path.{_≡_, refl, _∙_}
-use Prim.Native.Nat.{_+_, _*_, _-_, _≤_}
+use mathlib.Core.Path.{_≡_, _∙_}
+use Prim.Native.Nat.{_-_}
 use native.Mathlib.Omega.{arith}
 use lib.ListN.{length}
-use Rattle.replay.specs.Limits.{mostAnswer}
-use Rattle.replay.specs.Lent.{Lent, Gathers}
-use Rattle.replay.proofs.Reading.{prefix-count}
+use Rattle.replay.specs.Lent.{Gathers}
 use Rattle.replay.proofs.Gathering.{Alike, lent-alike}
 use borrow.Author.Needs.{needs}
 use Rattle.replay.proofs.replay.Statement.{statement}

@@ -1,11 +1,10 @@
 -- `take_piece` meets its contract: after each line there is room for another answer.
-use mathlib.Core.Path.{_≡_, refl, _∙_}
-use Prim.Native.Nat.{_+_, _*_, _-_, _≤_}
+use mathlib.Core.Path.{_≡_, _∙_}
+use Prim.Native.Nat.{_-_, _≤_}
 use native.Mathlib.Omega.{arith}
 use lib.ListN.{length}
 use borrow.Rule.Slice.PartMut.{putMid}
-use Rattle.replay.specs.Limits.{mostAnswer}
-use Rattle.replay.specs.Lent.{Lent, Gathers}
+use Rattle.replay.specs.Lent.{Gathers}
 use Rattle.replay.proofs.Reading.{prefix-count}
 use Rattle.replay.proofs.Gathering.{Alike, lent-alike, rest-room, rest-back}
 use borrow.Author.Needs.{needs}

@@ -1,6 +1,5 @@
 -- `half_product` meets its contract: either half of the product, if it is too large, makes it too large.
 use mathlib.Core.Path.{sym, _∙_, ap}
-use native.Mathlib.Omega.{arith}
 use borrow.Author.Needs.{needs}
 use Rattle.weights.specs.Capped.{capped}
 use Rattle.weights.proofs.Weighing.{heavy-capped, halves-fit, halves, high-heavy, low-heavy}

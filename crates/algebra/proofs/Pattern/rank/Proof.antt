@@ -1,5 +1,4 @@
 -- `Pattern::rank` meets its contract: a valid word's degree is its remainder by 255, and the quotient is below 2^56.
-use Prim.Native.Nat.{_^_}
 use native.Mathlib.Omega.{arith}
 use Rattle.algebra.specs.Rank.{rankOf}
 use Rattle.algebra.proofs.Patterns.Word.{valid-degree, quotient-small}

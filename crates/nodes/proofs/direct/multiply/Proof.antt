@@ -1,7 +1,6 @@
 -- `multiply` meets its contract: the loop keeps `Scaling`.
 use mathlib.Core.Path.{_≡_, refl, _∙_, ap}
 use Prim.Native.Nat.{_+_, _*_, _-_}
-use native.Mathlib.Omega.{arith}
 use borrow.Author.Needs.{needs}
 use lib.IntN.{pos, _*ℤ_}
 use lib.ListN.{getD}

@@ -1,7 +1,7 @@
 -- `estimate` meets its contract.
 use mathlib.Core.Path.{_∙_}
 use native.Mathlib.Omega.{arith}
-use Rattle.replay.proofs.Reading.{got-within, lengths-within, prefix-count, prefix-most}
+use Rattle.replay.proofs.Reading.{got-within, prefix-count, prefix-most}
 use borrow.Author.Needs.{needs}
 use Rattle.replay.proofs.estimates.estimate.Statement.{statement}
 use Rattle.replay.proofs.estimates.estimate.Tie as tie

@@ -1,5 +1,4 @@
 -- `bytes` meets its contract.
-use native.Mathlib.Omega.{arith}
 use borrow.Author.Tests.{not-false}
 use borrow.Author.Needs.{needs}
 use Rattle.replay.proofs.fields.bytes.Statement.{statement}

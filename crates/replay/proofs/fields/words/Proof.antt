@@ -1,5 +1,4 @@
 -- `words` meets its contract.
-use native.Mathlib.Omega.{arith}
 use borrow.Author.Tests.{not-false}
 use borrow.Author.Needs.{needs}
 use Rattle.replay.proofs.fields.words.Statement.{statement}

@@ -6,7 +6,7 @@ use lib.IntN.{pos}
 use lib.ListN.{length}
 use mir.Syntax.{w64}
 use mir.Val.{ofZ}
-use Rattle.answers.proofs.Signed.{bits-are, bits-not}
+use Rattle.answers.proofs.Signed.{bits-are}
 use Rattle.replay.specs.Filling.{filledWord, filledSigned, Holds}
 use Rattle.replay.proofs.Holding.{none, more, broken, kept}
 use borrow.Author.Needs.{needs}

@@ -6,11 +6,11 @@ use borrow.Author.Needs.{needs}
 use Rattle.replay.proofs.lines.bytes.Statement.{statement}
 use Rattle.replay.proofs.lines.bytes.Tie as tie
 
-slice-aggregate-write : tie.Need-slice-aggregate-write
-slice-aggregate-write c = search needs
+slice-aggregate-write-bytes : tie.Need-slice-aggregate-write-bytes
+slice-aggregate-write-bytes c = search needs
 
-write-requires : tie.Need-write-requires
-write-requires c κs = search needs
+write-bytes-requires : tie.Need-write-bytes-requires
+write-bytes-requires c κs = search needs
 
 same-length : tie.Need-same-length
 same-length c = search needs
@@ -34,4 +34,4 @@ returns-2 : tie.Need-returns-2
 returns-2 c = search needs
 
 pub bytes-spec : {M : Type 1} → statement M
-bytes-spec = tie.close (tie.spec slice-aggregate-write write-requires same-length returns slice-write-out add-write-hex write-hex-requires same-length-2 returns-2)
+bytes-spec = tie.close (tie.spec slice-aggregate-write-bytes write-bytes-requires same-length returns slice-write-out add-write-hex write-hex-requires same-length-2 returns-2)

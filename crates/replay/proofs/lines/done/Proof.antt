@@ -3,11 +3,11 @@ use borrow.Author.Needs.{needs}
 use Rattle.replay.proofs.lines.done.Statement.{statement}
 use Rattle.replay.proofs.lines.done.Tie as tie
 
-slice-aggregate-write : tie.Need-slice-aggregate-write
-slice-aggregate-write c = search needs
+slice-aggregate-write-bytes : tie.Need-slice-aggregate-write-bytes
+slice-aggregate-write-bytes c = search needs
 
-write-requires : tie.Need-write-requires
-write-requires c κs = search needs
+write-bytes-requires : tie.Need-write-bytes-requires
+write-bytes-requires c κs = search needs
 
 write-number-requires : tie.Need-write-number-requires
 write-number-requires c κs = search needs
@@ -19,4 +19,4 @@ returns : tie.Need-returns
 returns c = search needs
 
 pub done-spec : {M : Type 1} → statement M
-done-spec = tie.close (tie.spec slice-aggregate-write write-requires write-number-requires same-length returns)
+done-spec = tie.close (tie.spec slice-aggregate-write-bytes write-bytes-requires write-number-requires same-length returns)

@@ -6,11 +6,11 @@ use borrow.Author.Needs.{needs}
 use Rattle.replay.proofs.lines.refused.Statement.{statement}
 use Rattle.replay.proofs.lines.refused.Tie as tie
 
-slice-aggregate-write : tie.Need-slice-aggregate-write
-slice-aggregate-write c = search needs
+slice-aggregate-write-bytes : tie.Need-slice-aggregate-write-bytes
+slice-aggregate-write-bytes c = search needs
 
-write-requires : tie.Need-write-requires
-write-requires c κs = search needs
+write-bytes-requires : tie.Need-write-bytes-requires
+write-bytes-requires c κs = search needs
 
 write-number-requires : tie.Need-write-number-requires
 write-number-requires c κs = search needs
@@ -25,10 +25,10 @@ write-number-requires-2 : tie.Need-write-number-requires-2
 write-number-requires-2 c κs = simp length-set (omega arith)
 
 same-length : tie.Need-same-length
-same-length c = let before = c .before .before .before .before .before .before .write-number .kept .0 ∙ c .before .before .before .before .before .before .before .before .before .before .write .kept .0 in c .before .before .write-number2 .kept .0 ∙ simp length-set before
+same-length c = let before = c .before .before .before .before .before .before .write-number .kept .0 ∙ c .before .before .before .before .before .before .before .before .before .before .write-bytes .kept .0 in c .before .before .write-number2 .kept .0 ∙ simp length-set before
 
 returns : tie.Need-returns
 returns c = search needs
 
 pub refused-spec : {M : Type 1} → statement M
-refused-spec = tie.close (tie.spec slice-aggregate-write write-requires write-number-requires slice-write-out add-write-number write-number-requires-2 same-length returns)
+refused-spec = tie.close (tie.spec slice-aggregate-write-bytes write-bytes-requires write-number-requires slice-write-out add-write-number write-number-requires-2 same-length returns)

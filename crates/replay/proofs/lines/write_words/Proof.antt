@@ -1,7 +1,6 @@
 -- `write_words` meets its contract: the digits left are those of the words left.
 use mathlib.Core.Path.{refl}
 use Prim.Native.Nat.{_-_}
-use native.Mathlib.Omega.{arith}
 use lib.ListN.{length}
 use Rattle.packed.proofs.Writing.{Writing}
 use Rattle.replay.specs.Hex.{inHex}

@@ -1,6 +1,6 @@
 -- `unpack` meets its contract.
 use native.Mathlib.Omega.{arith}
-use Rattle.replay.proofs.Reading.{got-within, lengths-within, prefix-count, prefix-most}
+use Rattle.replay.proofs.Reading.{got-within, prefix-count, prefix-most}
 use borrow.Author.Needs.{needs}
 use Rattle.replay.proofs.packing.unpack.Statement.{statement}
 use Rattle.replay.proofs.packing.unpack.Tie as tie

@@ -1,9 +1,8 @@
 -- `step` meets its contract, both ways.
-use mathlib.Core.Path.{_≡_, sym, _∙_, ap₂, subst}
-use Prim.Native.Nat.{_+_, _*_, _≤_}
-use native.Mathlib.Omega.{arith}
+use mathlib.Core.Path.{_≡_, sym, _∙_, ap₂}
+use Prim.Native.Nat.{_*_, _≤_}
 use borrow.Author.Needs.{needs}
-use lib.IntN.{ℤ, pos, natAbs}
+use lib.IntN.{ℤ, pos}
 use lib.ListN.{take}
 use mir.Syntax.{w64}
 use mir.ValLaws.{toZ-ofZ}
