@@ -21,7 +21,6 @@ ghost use Rattle.answers.specs.Refusals.{SUM};
 ghost use Rattle.answers.specs.Answers.{told, outcome};
 ghost use Rattle.numbers.specs.Item.{mapped};
 ghost use Rattle.numbers.specs.Code.{code};
-ghost use Rattle.numbers.specs.Number.{readNumber};
 ghost use Rattle.numbers.specs.Read.{itemOf};
 ghost use Rattle.packed.specs.ReadSum.{readCoefficient, readExponents, readTerms, readSum};
 ghost use Rattle.algebra.specs.Held.{wordFor};
@@ -32,6 +31,7 @@ ghost use Rattle.packed.specs.Result.{heldInto, wholeInto};
 ghost use Rattle.packed.specs.Unpack.{unpack};
 ghost use Rattle.packed.specs.Pack.{goodTerms, pack};
 
+pub mod reader;
 pub mod writer;
 
 // A term takes ten bytes at most for its coefficient and one for each exponent, the count two.
@@ -45,34 +45,12 @@ const LARGEST_WORD: u64 = 18446744073709551615;
 
 // ---- One item. Its answer is taken apart, and a refusal is returned at once.
 
-// The number at a place. One byte, or two, are the usual case, and are seen here.
-fn read_short(bytes: &[u8], at: usize) -> Read
-    ensures { λ r. ⌜ itemOf r ≡ readNumber (now (bytes .entry)) at ⌝ }
-{
-    if at < bytes.len() {
-        let low = bytes[at] as u64;
-        if low < 128 {
-            return Read::Value(low, at + 1);
-        }
-        if at + 1 < bytes.len() {
-            let high = bytes[at + 1] as u64;
-            if high < 128 {
-                // A last group of 0 is at fault.
-                if high > 0 {
-                    return Read::Value(low - 128 + 128 * high, at + 2);
-                }
-            }
-        }
-    }
-    numbers::read_number(bytes, at)
-}
-
 // A coefficient, judged at once: `weight` is that of the terms before. The value is its code.
 fn read_coefficient(bytes: &[u8], at: usize, weight: u64) -> Read
     requires { ⌜ weight ≤ largestWeight ⌝ }
     ensures { λ r. ⌜ itemOf r ≡ mapped code (readCoefficient weight (now (bytes .entry)) at) ⌝ }
 {
-    let item = numbers::read_number(bytes, at);
+    let item = reader::read_item(bytes, at);
     let Read::Value(c, next) = item else {
         return item;
     };
@@ -96,7 +74,7 @@ fn read_exponents(bytes: &[u8], at: usize, powers: u64) -> Read
     let mut place = at;
     let mut v: u64 = 0;
     while v < powers {
-        let item = numbers::read_number(bytes, place);
+        let item = reader::read_item(bytes, place);
         let Read::Value(e, next) = item else {
             return item;
         };
@@ -223,7 +201,7 @@ fn copy_terms(
     let mut place = at;
     let mut k = 0;
     while k < count {
-        let item = read_short(bytes, place);
+        let item = reader::read_item(bytes, place);
         let Read::Value(c, next) = item else {
             return 0;
         };
@@ -282,7 +260,7 @@ fn take(
 pub fn read_count(bytes: &[u8], at: usize) -> Read
     ensures { λ r. ⌜ itemOf r ≡ readCount (now (bytes .entry)) at ⌝ }
 {
-    let item = read_short(bytes, at);
+    let item = reader::read_item(bytes, at);
     let Read::Value(count, _) = item else {
         return item;
     };

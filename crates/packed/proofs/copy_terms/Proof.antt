@@ -23,7 +23,7 @@ abbrev μ-loop : tie.MeasureT-loop
 -- the number that was read; it ends inside, and there is room for eight bytes
 read : (d : tie.After-known-told Inv-loop μ-loop)
     → readNumber (d .before .before .before .before .before .before .before .before .args .bytes .now) (d .before .before .before .before .before .loop .place) ≡ got (d .before .item .given .0 .0) (d .before .item .given .0 .1 .0)
-read d = let r = d .before .before .before .read-short in number-answered (r .result) (d .before .item .given .1) (r .ensures)
+read d = let r = d .before .before .before .read-item in number-answered (r .result) (d .before .item .given .1) (r .ensures)
 
 inside : (d : tie.After-known-told Inv-loop μ-loop) → d .before .item .given .0 .1 .0 ≤ length (d .before .before .before .before .before .before .before .before .args .bytes .now)
 inside d = number-inside _ _ _ _ (read d) .1
@@ -34,8 +34,8 @@ room e = omega (arith, inside (e .before), e .if1 .left)
 loop-holds : tie.Need-loop-holds Inv-loop μ-loop
 loop-holds c = let pre = c .before .before .pre in start _ _ _ _ _ (pre .0) (pre .1)
 
-read-short-requires : tie.Need-read-short-requires Inv-loop μ-loop
-read-short-requires c κs = search needs
+read-item-requires : tie.Need-read-item-requires Inv-loop μ-loop
+read-item-requires c κs = search needs
 
 enum-known-item : tie.Need-enum-known-item Inv-loop μ-loop
 enum-known-item c = search needs
@@ -111,7 +111,7 @@ copy-terms-spec =
     Inv-loop
     μ-loop
     loop-holds
-    read-short-requires
+    read-item-requires
     enum-known-item
     same-length
     same-length-2
