@@ -171,20 +171,6 @@ fn take_each(
     item
 }
 
-// The eight bytes at a place as one word, whatever they are.
-fn word_at(bytes: &[u8], at: usize) -> u64
-    requires { ⌜ at + variables ≤ length (now bytes) ⌝ }
-    ensures { λ r. ⌜ r ≡ word (take variables (drop at (now (bytes .entry)))) ⌝ }
-{
-    let mut word: u64 = 0;
-    let mut v: u64 = 0;
-    while v < Pattern::VARIABLES {
-        word = word | ((bytes[at + v as usize] as u64) << (8 * (Pattern::VARIABLES - 1 - v)));
-        v += 1;
-    }
-    word
-}
-
 // `count` terms as they stand, not judged: a code, and a byte for each exponent, as all good terms have it. It answers the place after them; 0 where they are not like that, and
 // then nothing is said of the places.
 fn copy_terms(
@@ -209,7 +195,7 @@ fn copy_terms(
             return 0;
         }
         let coefficient = numbers::decode(c);
-        patterns[k] = word_at(bytes, next);
+        patterns[k] = reader::read_word(bytes, next);
         coefficients[k] = coefficient;
         place = next + Pattern::VARIABLES as usize;
         k += 1;

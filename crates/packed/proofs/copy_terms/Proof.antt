@@ -64,8 +64,8 @@ returns-2 c = stops (c .before .before .before .before .before .before .loop .in
 decode-requires : tie.Need-decode-requires Inv-loop μ-loop
 decode-requires c κs = search needs
 
-word-at-requires : tie.Need-word-at-requires Inv-loop μ-loop
-word-at-requires c κs = room (c .before)
+read-word-requires : tie.Need-read-word-requires Inv-loop μ-loop
+read-word-requires c κs = room (c .before)
 
 mul-patterns : tie.Need-mul-patterns Inv-loop μ-loop
 mul-patterns c = search needs
@@ -93,7 +93,7 @@ loop-again c =
     let e = c .before .before in
     let d = e .before in
     let value = number-is (d .before .item .given .0 .0) (search needs) (c .before .decode .ensures) in
-    again (d .before .before .before .before .before .loop .inv) (λ i. d .before .before .before .before .before .before .before .shared-slice-known .given i .fits) (d .before .before .before .before .loop-test .taken) (read d) (room e) (c .word-at .ensures) value
+    again (d .before .before .before .before .before .loop .inv) (λ i. d .before .before .before .before .before .before .before .shared-slice-known .given i .fits) (d .before .before .before .before .loop-test .taken) (read d) (room e) (c .read-word .ensures) value
 
 same-length-5 : tie.Need-same-length-5 Inv-loop μ-loop
 same-length-5 c = search needs
@@ -121,7 +121,7 @@ copy-terms-spec =
     same-length-4
     returns-2
     decode-requires
-    word-at-requires
+    read-word-requires
     mul-patterns
     slice-write-patterns
     mul-coefficient
