@@ -4,8 +4,8 @@ use native.Mathlib.Omega.{arith}
 use borrow.Author.Needs.{needs}
 use Rattle.numbers.proofs.Items.{number-stopped, number-answered}
 use Rattle.packed.proofs.ReadItems.{Reads, start, stops, too-high, asks, again, ended}
-use Rattle.packed.proofs.read_exponents.Statement.{statement}
-use Rattle.packed.proofs.read_exponents.Tie as tie
+use Rattle.packed.proofs.items.read_exponents.Statement.{statement}
+use Rattle.packed.proofs.items.read_exponents.Tie as tie
 
 abbrev Inv-loop : tie.InvT-loop
 Inv-loop bytes at powers pattern₀ degree₀ place₀ v₀ pattern degree place v = Reads bytes at powers (pattern .0) degree place v

@@ -6,8 +6,8 @@ use Rattle.numbers.specs.Item.{Item.got}
 use Rattle.numbers.specs.Number.{readNumber}
 use Rattle.numbers.proofs.Items.{number-stopped, number-answered}
 use Rattle.packed.proofs.ReadItems.{size-is, coefficient-stopped, coefficient-zero, coefficient-heavy, coefficient-taken}
-use Rattle.packed.proofs.read_coefficient.Statement.{statement}
-use Rattle.packed.proofs.read_coefficient.Tie as tie
+use Rattle.packed.proofs.items.read_coefficient.Statement.{statement}
+use Rattle.packed.proofs.items.read_coefficient.Tie as tie
 
 read-item-requires : tie.Need-read-item-requires
 read-item-requires c κs = search needs

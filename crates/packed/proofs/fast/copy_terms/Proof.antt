@@ -11,8 +11,8 @@ use Rattle.numbers.proofs.Items.{number-answered}
 use Rattle.numbers.proofs.Numbers.{number-inside}
 use Rattle.packed.proofs.CopyTerms.{Copying, start, again, stops, ended}
 use Rattle.packed.proofs.ReadItems.{number-is}
-use Rattle.packed.proofs.copy_terms.Statement.{statement}
-use Rattle.packed.proofs.copy_terms.Tie as tie
+use Rattle.packed.proofs.fast.copy_terms.Statement.{statement}
+use Rattle.packed.proofs.fast.copy_terms.Tie as tie
 
 abbrev Inv-loop : tie.InvT-loop
 Inv-loop bytes at count patterns₀ coefficients₀ place₀ k₀ patterns coefficients place k = Copying bytes at count patterns₀ coefficients₀ patterns coefficients place k
