@@ -65,7 +65,7 @@ fn read_pairs(
     let mut place = at;
     let mut j = 0;
     while j < count {
-        let number = numbers::read_number(list, place);
+        let number = packed::reader::read_item(list, place);
         let Read::Value(v, next) = number else {
             return faulty(number);
         };
@@ -108,7 +108,7 @@ pub(crate) fn read_list(
     ensures { λ r. ⌜ drop workPlaces (now (patterns .exit)) ≡ drop workPlaces (now (patterns .entry)) ⌝ }
     ensures { λ r. ⌜ drop workPlaces (now (coefficients .exit)) ≡ drop workPlaces (now (coefficients .entry)) ⌝ }
 {
-    let item = numbers::read_number(list, 0);
+    let item = packed::reader::read_item(list, 0);
     let Read::Value(count, next) = item else {
         return faulty(item);
     };

@@ -19,5 +19,8 @@ pub mod Packing
 pub mod Inverse
 pub mod Working
 pub mod Results
+pub mod ReaderForms
+pub mod TakenApart
+pub mod PassedOn
 pub mod Unique
 pub mod Cases

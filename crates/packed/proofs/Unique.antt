@@ -9,6 +9,7 @@ use Rattle.answers.proofs.Unique.{told-one, outcome-one}
 use Rattle.numbers.proofs.Unique.{item-one}
 use Rattle.packed.proofs.read_count.Reads as read-count
 use Rattle.packed.proofs.read_sum.Reads as read-sum
+use Rattle.packed.proofs.reader.read_item.Reads as read-item
 use Rattle.packed.proofs.refused.Reads as refused
 use Rattle.packed.proofs.take_whole.Reads as take-whole
 use Rattle.packed.proofs.unpack.Reads as unpack
@@ -23,6 +24,9 @@ pub pack-one : OneLent pack.Learnt (λ k e. now (e .1 .1 .1 .0))
 pack-one k a r r' e e' h h' = outcome-one r r' (same h h')
 
 -- what other crates call
+pub read-item-one : One read-item.Learnt
+read-item-one k a r r' e e' h h' = item-one r r' (same h h')
+
 pub read-count-one : One read-count.Learnt
 read-count-one k a r r' e e' h h' = item-one r r' (same h h')
 

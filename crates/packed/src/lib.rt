@@ -1,37 +1,27 @@
-// Packed sums: read item by item, unpacked into two lent areas, and packed from them.
-use algebra::LARGEST_WEIGHT;
+// Packed sums: unpacked into two lent areas, packed from them, and read where they stand in other bytes.
 use algebra::MOST_TERMS;
 use algebra::Pattern;
-use algebra::Standing;
 use answers::Answer;
 use answers::Refusal;
 use answers::areas;
 use numbers::Read;
 ghost use mathlib.Core.Path.{_≡_};
-ghost use mathlib.Core.Bool.{_||_};
-ghost use mathlib.Core.List.{[]};
-ghost use Prim.Native.Nat.{_+_, _≤_};
-ghost use lib.Dec.{eqb};
-ghost use lib.ListN.{length, take, drop};
-ghost use Rattle.algebra.specs.Limits.{variables, mostTerms, largestWeight};
-ghost use Rattle.algebra.specs.Pattern.{order};
-ghost use Rattle.algebra.specs.Sum.{isBefore};
-ghost use Rattle.algebra.specs.Word.{word, exponents, Valid};
+ghost use Prim.Native.Nat.{_≤_};
+ghost use lib.ListN.{length};
+ghost use Rattle.algebra.specs.Limits.{variables, mostTerms};
 ghost use Rattle.answers.specs.Refusals.{SUM};
 ghost use Rattle.answers.specs.Answers.{told, outcome};
-ghost use Rattle.numbers.specs.Item.{mapped};
-ghost use Rattle.numbers.specs.Code.{code};
-ghost use Rattle.numbers.specs.Number.{readNumber};
 ghost use Rattle.numbers.specs.Read.{itemOf};
-ghost use Rattle.packed.specs.ReadSum.{readCoefficient, readExponents, readTerms, readSum};
-ghost use Rattle.algebra.specs.Held.{wordFor};
+ghost use Rattle.packed.specs.ReadSum.{readSum};
 ghost use Rattle.packed.specs.Held.{readCount, readRest, readInto};
-ghost use Rattle.packed.specs.Arrays.{Holds, takenInto, Copies, Takes};
 ghost use Rattle.packed.specs.Whole.{judged, fault};
 ghost use Rattle.packed.specs.Result.{heldInto, wholeInto};
 ghost use Rattle.packed.specs.Unpack.{unpack};
-ghost use Rattle.packed.specs.Pack.{goodTerms, pack};
+ghost use Rattle.packed.specs.Pack.{pack};
 
+mod fast;
+mod items;
+pub mod reader;
 pub mod writer;
 
 // A term takes ten bytes at most for its coefficient and one for each exponent, the count two.
@@ -40,249 +30,13 @@ pub const MOST_BYTES: usize = (10 + Pattern::VARIABLES as usize) * MOST_TERMS + 
 // So many terms are few.
 pub const FEW_TERMS: usize = 16;
 
-// No pattern has it.
-const LARGEST_WORD: u64 = 18446744073709551615;
-
-// ---- One item. Its answer is taken apart, and a refusal is returned at once.
-
-// The number at a place. One byte, or two, are the usual case, and are seen here.
-fn read_short(bytes: &[u8], at: usize) -> Read
-    ensures { λ r. ⌜ itemOf r ≡ readNumber (now (bytes .entry)) at ⌝ }
-{
-    if at < bytes.len() {
-        let low = bytes[at] as u64;
-        if low < 128 {
-            return Read::Value(low, at + 1);
-        }
-        if at + 1 < bytes.len() {
-            let high = bytes[at + 1] as u64;
-            if high < 128 {
-                // A last group of 0 is at fault.
-                if high > 0 {
-                    return Read::Value(low - 128 + 128 * high, at + 2);
-                }
-            }
-        }
-    }
-    numbers::read_number(bytes, at)
-}
-
-// A coefficient, judged at once: `weight` is that of the terms before. The value is its code.
-fn read_coefficient(bytes: &[u8], at: usize, weight: u64) -> Read
-    requires { ⌜ weight ≤ largestWeight ⌝ }
-    ensures { λ r. ⌜ itemOf r ≡ mapped code (readCoefficient weight (now (bytes .entry)) at) ⌝ }
-{
-    let item = numbers::read_number(bytes, at);
-    let Read::Value(c, next) = item else {
-        return item;
-    };
-    let size = numbers::absolute(numbers::decode(c));
-    if size == 0 {
-        return Read::Bad(at);
-    }
-    if size > LARGEST_WEIGHT - weight {
-        return Read::Bad(at);
-    }
-    Read::Value(c, next)
-}
-
-// The powers of the first variables, so many as `powers` says; the others are 0. The value is the pattern's word.
-fn read_exponents(bytes: &[u8], at: usize, powers: u64) -> Read
-    requires { ⌜ powers ≤ variables ⌝ }
-    ensures { λ r. ⌜ itemOf r ≡ mapped wordFor (readExponents powers 0 (now (bytes .entry)) at) ⌝ }
-{
-    let mut pattern = Pattern::empty();
-    let mut degree: u64 = 0;
-    let mut place = at;
-    let mut v: u64 = 0;
-    while v < powers {
-        let item = numbers::read_number(bytes, place);
-        let Read::Value(e, next) = item else {
-            return item;
-        };
-        if e > Pattern::LARGEST_DEGREE - degree {
-            return Read::Bad(place);
-        }
-        pattern = pattern.product(Pattern::power(v, e));
-        degree += e;
-        place = next;
-        v += 1;
-    }
-    Read::Value(pattern.0, place)
-}
-
-// Whether a pattern stands strictly after the one before. The first of all, k = 0, has none before it.
-fn stands_after(k: usize, last: Pattern, pattern: Pattern) -> bool
-    requires { ⌜ Valid (last .0) ⌝ }
-    requires { ⌜ Valid (pattern .0) ⌝ }
-    ensures { λ r. ⌜ r ≡ (eqb k 0 || isBefore (order (exponents (last .0)) (exponents (pattern .0)))) ⌝ }
-{
-    if k == 0 {
-        return true;
-    }
-    match last.compare(pattern) {
-        Standing::Before => true,
-        Standing::Same => false,
-        Standing::After => false,
-    }
-}
-
-// ---- Terms and sums.
-
-// `count` terms of `powers` exponents each, into the first places of two arrays. What a refusal leaves in these places is not said: the arrays are the callers' own.
-fn take_terms(
-    bytes: &[u8],
-    at: usize,
-    powers: u64,
-    count: usize,
-    patterns: &mut [u64],
-    coefficients: &mut [i64],
-) -> Read
-    requires { ⌜ powers ≤ variables ⌝ }
-    requires { ⌜ count ≤ length (now patterns) ⌝ }
-    requires { ⌜ count ≤ length (now coefficients) ⌝ }
-    ensures { λ r. ⌜ itemOf r ≡ mapped length (readTerms powers count [] (now (bytes .entry)) at) ⌝ }
-    ensures { λ r. ⌜ Holds count (readTerms powers count [] (now (bytes .entry)) at) (now (patterns .entry)) (now (coefficients .entry)) (now (patterns .exit)) (now (coefficients .exit)) ⌝ }
-{
-    let mut place = at;
-    let mut weight: u64 = 0;
-    let mut last = Pattern::empty();
-    let mut k = 0;
-    while k < count {
-        let first = read_coefficient(bytes, place, weight);
-        let Read::Value(c, next) = first else {
-            return first;
-        };
-        let rest = read_exponents(bytes, next, powers);
-        let Read::Value(w, end) = rest else {
-            return rest;
-        };
-        let pattern = Pattern(w);
-        if !stands_after(k, last, pattern) {
-            return Read::Bad(place);
-        }
-        let coefficient = numbers::decode(c);
-        patterns[k] = w;
-        coefficients[k] = coefficient;
-        weight += numbers::absolute(coefficient);
-        last = pattern;
-        place = end;
-        k += 1;
-    }
-    Read::Value(count as u64, place)
-}
-
-// The same for as many exponents as there are variables; and on a fault the places are cleared.
-fn take_each(
-    bytes: &[u8],
-    at: usize,
-    count: usize,
-    patterns: &mut [u64],
-    coefficients: &mut [i64],
-) -> Read
-    requires { ⌜ count ≤ length (now patterns) ⌝ }
-    requires { ⌜ count ≤ length (now coefficients) ⌝ }
-    ensures { λ r. ⌜ (itemOf r, now (patterns .exit), now (coefficients .exit)) ≡ takenInto count (readTerms variables count [] (now (bytes .entry)) at) (now (patterns .entry)) (now (coefficients .entry)) ⌝ }
-{
-    let item = take_terms(bytes, at, Pattern::VARIABLES, count, patterns, coefficients);
-    let Read::Value(_, _) = item else {
-        areas::clear_words(patterns, count);
-        areas::clear_coefficients(coefficients, count);
-        return item;
-    };
-    item
-}
-
-// The eight bytes at a place as one word, whatever they are.
-fn word_at(bytes: &[u8], at: usize) -> u64
-    requires { ⌜ at + variables ≤ length (now bytes) ⌝ }
-    ensures { λ r. ⌜ r ≡ word (take variables (drop at (now (bytes .entry)))) ⌝ }
-{
-    let mut word: u64 = 0;
-    let mut v: u64 = 0;
-    while v < Pattern::VARIABLES {
-        word = word | ((bytes[at + v as usize] as u64) << (8 * (Pattern::VARIABLES - 1 - v)));
-        v += 1;
-    }
-    word
-}
-
-// `count` terms as they stand, not judged: a code, and a byte for each exponent, as all good terms have it. It answers the place after them; 0 where they are not like that, and
-// then nothing is said of the places.
-fn copy_terms(
-    bytes: &[u8],
-    at: usize,
-    count: usize,
-    patterns: &mut [u64],
-    coefficients: &mut [i64],
-) -> usize
-    requires { ⌜ count ≤ length (now patterns) ⌝ }
-    requires { ⌜ count ≤ length (now coefficients) ⌝ }
-    ensures { λ r. ⌜ Copies count (now (bytes .entry)) at r (now (patterns .entry)) (now (coefficients .entry)) (now (patterns .exit)) (now (coefficients .exit)) ⌝ }
-{
-    let mut place = at;
-    let mut k = 0;
-    while k < count {
-        let item = read_short(bytes, place);
-        let Read::Value(c, next) = item else {
-            return 0;
-        };
-        if bytes.len() - next < Pattern::VARIABLES as usize {
-            return 0;
-        }
-        let coefficient = numbers::decode(c);
-        patterns[k] = word_at(bytes, next);
-        coefficients[k] = coefficient;
-        place = next + Pattern::VARIABLES as usize;
-        k += 1;
-    }
-    place
-}
-
-// The same for good terms only: they are copied, and then judged as packing judges them. Where this answers 0 they have to be read item by item, which finds the fault.
-// The answer is a number: an enum would go through memory, which takes longer than to read a term.
-fn take_good(
-    bytes: &[u8],
-    at: usize,
-    count: usize,
-    patterns: &mut [u64],
-    coefficients: &mut [i64],
-) -> usize
-    requires { ⌜ count ≤ length (now patterns) ⌝ }
-    requires { ⌜ count ≤ length (now coefficients) ⌝ }
-    ensures { λ r. ⌜ Takes count (now (bytes .entry)) at r (now (patterns .entry)) (now (coefficients .entry)) (now (patterns .exit)) (now (coefficients .exit)) ⌝ }
-{
-    let end = copy_terms(bytes, at, count, patterns, coefficients);
-    if good_terms(patterns, coefficients, count) < count {
-        return 0;
-    }
-    end
-}
-
-// `count` terms at a place of the bytes, into the first places of two arrays.
-fn take(
-    bytes: &[u8],
-    at: usize,
-    count: usize,
-    patterns: &mut [u64],
-    coefficients: &mut [i64],
-) -> Read
-    requires { ⌜ count ≤ length (now patterns) ⌝ }
-    requires { ⌜ count ≤ length (now coefficients) ⌝ }
-    ensures { λ r. ⌜ (itemOf r, now (patterns .exit), now (coefficients .exit)) ≡ takenInto count (readTerms variables count [] (now (bytes .entry)) at) (now (patterns .entry)) (now (coefficients .entry)) ⌝ }
-{
-    let end = take_good(bytes, at, count, patterns, coefficients);
-    if end == 0 {
-        return take_each(bytes, at, count, patterns, coefficients);
-    }
-    Read::Value(count as u64, end)
-}
+// ---- What other operations read of packed sums.
 
 // The number of terms of a packed sum at a place of the bytes, judged.
 pub fn read_count(bytes: &[u8], at: usize) -> Read
     ensures { λ r. ⌜ itemOf r ≡ readCount (now (bytes .entry)) at ⌝ }
 {
-    let item = read_short(bytes, at);
+    let item = reader::read_item(bytes, at);
     let Read::Value(count, _) = item else {
         return item;
     };
@@ -305,7 +59,7 @@ pub fn read_sum(bytes: &[u8], at: usize, patterns: &mut [u64], coefficients: &mu
     let n = count as usize;
     let mut own_patterns = [0u64; MOST_TERMS];
     let mut own_coefficients = [0i64; MOST_TERMS];
-    let item = take(bytes, next, n, &mut own_patterns, &mut own_coefficients);
+    let item = fast::take(bytes, next, n, &mut own_patterns, &mut own_coefficients);
     let Read::Value(_, _) = item else {
         return item;
     };
@@ -313,8 +67,6 @@ pub fn read_sum(bytes: &[u8], at: usize, patterns: &mut [u64], coefficients: &mu
     areas::copy_coefficients(coefficients, &own_coefficients, n);
     item
 }
-
-// ---- The operations.
 
 // A packed sum that was cut or is damaged is refused with SUM at its place. (A value is none of the two, and is not passed here.)
 pub fn refused(item: Read) -> Answer
@@ -339,13 +91,13 @@ pub fn take_whole(
     requires { ⌜ count ≤ length (now coefficients) ⌝ }
     ensures { λ r. ⌜ outcome (told r) (now (patterns .exit), now (coefficients .exit)) ≡ wholeInto count (judged SUM (readRest variables count (now (bytes .entry)) at)) (now (patterns .entry)) (now (coefficients .entry)) ⌝ }
 {
-    let good = take_good(bytes, at, count, patterns, coefficients);
+    let good = fast::take_good(bytes, at, count, patterns, coefficients);
     if good > 0 {
         if good == bytes.len() {
             return Answer::Done(count);
         }
     }
-    let item = take_each(bytes, at, count, patterns, coefficients);
+    let item = items::take_each(bytes, at, count, patterns, coefficients);
     let Read::Value(_, end) = item else {
         return refused(item);
     };
@@ -356,6 +108,8 @@ pub fn take_whole(
     }
     Answer::Done(count)
 }
+
+// ---- The operations.
 
 // The terms go through two arrays of the caller's own: the lent areas are written when nothing can be refused any more.
 fn unpack_terms(
@@ -423,44 +177,6 @@ pub fn unpack(bytes: &[u8], patterns: &mut [u64], coefficients: &mut [i64]) -> A
     )
 }
 
-// How many terms are good before the first bad one.
-fn good_terms(patterns: &[u64], coefficients: &[i64], count: usize) -> usize
-    requires { ⌜ count ≤ length (now patterns) ⌝ }
-    requires { ⌜ count ≤ length (now coefficients) ⌝ }
-    ensures { λ r. ⌜ r ≡ goodTerms [] (take count (now (patterns .entry))) (take count (now (coefficients .entry))) ⌝ }
-{
-    let mut weight: u64 = 0;
-    // The degree and the word of the pattern before. At first they are those that any pattern stands after.
-    let mut degree = Pattern::LARGEST_DEGREE;
-    let mut last: u64 = LARGEST_WORD;
-    let mut k = 0;
-    while k < count {
-        let pattern = Pattern(patterns[k]);
-        let coefficient = coefficients[k];
-        let size = numbers::absolute(coefficient);
-        if size == 0 {
-            return k;
-        }
-        if size > LARGEST_WEIGHT - weight {
-            return k;
-        }
-        let total = pattern.total();
-        if total > degree {
-            return k;
-        }
-        if total == degree {
-            if pattern.0 >= last {
-                return k;
-            }
-        }
-        weight += size;
-        degree = total;
-        last = pattern.0;
-        k += 1;
-    }
-    count
-}
-
 // Every term is looked at before the first byte is written.
 pub fn pack(count: usize, patterns: &[u64], coefficients: &[i64], result: &mut [u8]) -> Answer
     ensures { λ r. ⌜ outcome (told r) (now (result .exit)) ≡ pack count (now (patterns .entry)) (now (coefficients .entry)) (now (result .entry)) ⌝ }
@@ -477,7 +193,7 @@ pub fn pack(count: usize, patterns: &[u64], coefficients: &[i64], result: &mut [
     if count > coefficients.len() {
         return Answer::Refused(Refusal::Shape, 0);
     }
-    let good = good_terms(patterns, coefficients, count);
+    let good = fast::good_terms(patterns, coefficients, count);
     if good < count {
         return Answer::Refused(Refusal::Sum, good);
     }

@@ -13,8 +13,8 @@ use Rattle.change.proofs.TakeList.{pairs-stopped, pairs-read, count-sto
 use Rattle.change.proofs.lists.read_list.Statement.{statement}
 use Rattle.change.proofs.lists.read_list.Tie as tie
 
-read-number-requires : tie.Need-read-number-requires
-read-number-requires c κs = search needs
+read-item-requires : tie.Need-read-item-requires
+read-item-requires c κs = search needs
 
 enum-known-item : tie.Need-enum-known-item
 enum-known-item c = search needs
@@ -25,12 +25,12 @@ faulty-requires c κs = search needs
 returns : tie.Need-returns
 returns c =
     let args = c .before .before .before .before .before .before .before .args in
-    let r = c .before .before .read-number in
+    let r = c .before .before .read-item in
     tells (leaves-fault (args .patterns .now) (args .coefficients .now) _ _ _ _ (c .faulty .ensures) (count-stops _ (number-stopped (r .result) (c .before .match .keys2) _ (r .ensures))) refl refl)
 
 -- the count that was read
 count-is : (d : tie.After-known-told) → readNumber (d .before .before .before .before .before .before .before .before .args .list .now) 0 ≡ got (d .before .item .given .0 .0) (d .before .item .given .0 .1 .0)
-count-is d = let r = d .before .before .before .read-number in number-answered (r .result) (d .before .item .given .1) (r .ensures)
+count-is d = let r = d .before .before .before .read-item in number-answered (r .result) (d .before .item .given .1) (r .ensures)
 
 returns-2 : tie.Need-returns-2
 returns-2 c =
@@ -118,7 +118,7 @@ pub read-list-spec : {M : Type 1} → statement M
 read-list-spec =
     tie.close
     (tie.spec
-    read-number-requires
+    read-item-requires
     enum-known-item
     faulty-requires
     returns

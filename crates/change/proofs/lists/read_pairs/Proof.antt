@@ -20,8 +20,8 @@ abbrev μ-loop : tie.MeasureT-loop
 loop-holds : tie.Need-loop-holds Inv-loop μ-loop
 loop-holds c = let pre = c .before .before .before .before .pre in start _ _ _ _ _ _ _ (pre .0) (pre .1 .0) (pre .1 .1 .0) (pre .1 .1 .1 .0) (pre .1 .1 .1 .1)
 
-read-number-requires : tie.Need-read-number-requires Inv-loop μ-loop
-read-number-requires c κs = search needs
+read-item-requires : tie.Need-read-item-requires Inv-loop μ-loop
+read-item-requires c κs = search needs
 
 enum-known-number : tie.Need-enum-known-number Inv-loop μ-loop
 enum-known-number c = search needs
@@ -44,7 +44,7 @@ same-length-4 c = search needs
 returns : tie.Need-returns Inv-loop μ-loop
 returns c =
     let loop = c .before .before .before .before .loop in
-    let r = c .before .before .read-number in
+    let r = c .before .before .read-item in
     tells (stops-here (loop .inv) (c .faulty .ensures) (number-stops (loop .inv) (c .before .before .before .loop-test .taken) (number-stopped (r .result) (c .before .match .keys2) _ (r .ensures))))
 
 same-length-5 : tie.Need-same-length-5 Inv-loop μ-loop
@@ -61,7 +61,7 @@ same-length-8 c = search needs
 
 -- the number that was read
 number-is : (d : tie.After-known-told Inv-loop μ-loop) → readNumber (d .before .before .before .before .before .before .before .before .before .before .args .list .now) (d .before .before .before .before .before .loop .place) ≡ got (d .before .number .given .0 .0) (d .before .number .given .0 .1 .0)
-number-is d = let r = d .before .before .before .read-number in number-answered (r .result) (d .before .number .given .1) (r .ensures)
+number-is d = let r = d .before .before .before .read-item in number-answered (r .result) (d .before .number .given .1) (r .ensures)
 
 returns-2 : tie.Need-returns-2 Inv-loop μ-loop
 returns-2 c =
@@ -177,7 +177,7 @@ read-pairs-spec =
     Inv-loop
     μ-loop
     loop-holds
-    read-number-requires
+    read-item-requires
     enum-known-number
     faulty-requires
     same-length

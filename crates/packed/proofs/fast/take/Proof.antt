@@ -3,8 +3,8 @@ use mathlib.Core.Path.{_∙_}
 use native.Mathlib.Omega.{arith}
 use Rattle.packed.proofs.Taking.{taken-again}
 use borrow.Author.Needs.{needs}
-use Rattle.packed.proofs.take.Statement.{statement}
-use Rattle.packed.proofs.take.Tie as tie
+use Rattle.packed.proofs.fast.take.Statement.{statement}
+use Rattle.packed.proofs.fast.take.Tie as tie
 
 take-good-requires : tie.Need-take-good-requires
 take-good-requires c κs = search needs

@@ -4,8 +4,8 @@ use native.Mathlib.Omega.{arith}
 use borrow.Author.Needs.{needs}
 use Rattle.numbers.proofs.Items.{number-stopped, number-answered}
 use Rattle.packed.proofs.ReadItems.{Reads, start, stops, too-high, asks, again, ended}
-use Rattle.packed.proofs.read_exponents.Statement.{statement}
-use Rattle.packed.proofs.read_exponents.Tie as tie
+use Rattle.packed.proofs.items.read_exponents.Statement.{statement}
+use Rattle.packed.proofs.items.read_exponents.Tie as tie
 
 abbrev Inv-loop : tie.InvT-loop
 Inv-loop bytes at powers pattern₀ degree₀ place₀ v₀ pattern degree place v = Reads bytes at powers (pattern .0) degree place v
@@ -19,15 +19,15 @@ empty-requires c κs = search needs
 loop-holds : tie.Need-loop-holds Inv-loop μ-loop
 loop-holds c = start _ _ _ _ (c .empty .ensures) (c .before .before .pre)
 
-read-number-requires : tie.Need-read-number-requires Inv-loop μ-loop
-read-number-requires c κs = search needs
+read-item-requires : tie.Need-read-item-requires Inv-loop μ-loop
+read-item-requires c κs = search needs
 
 enum-known-item : tie.Need-enum-known-item Inv-loop μ-loop
 enum-known-item c = search needs
 
 returns : tie.Need-returns Inv-loop μ-loop
 returns c =
-    let n = c .before .read-number in
+    let n = c .before .read-item in
     stops (c .before .before .before .loop .inv) (c .before .before .loop-test .taken) (number-stopped (n .result) (c .match .keys2) _ (n .ensures))
 
 sub-if1 : tie.Need-sub-if1 Inv-loop μ-loop
@@ -38,7 +38,7 @@ returns-2 c =
     let d = c .before in
     let loop = d .before .before .before .before .before .loop in
     let inside = d .before .before .before .before .loop-test .taken in
-    let n = d .before .before .before .read-number in
+    let n = d .before .before .before .read-item in
     let read = number-answered (n .result) (d .before .item .given .1) (n .ensures) in
     too-high (loop .inv) inside read (omega (arith, c .if1 .taken))
 
@@ -53,7 +53,7 @@ product-requires c κs =
     let d = c .before .before in
     let loop = d .before .before .before .before .before .loop in
     let inside = d .before .before .before .before .loop-test .taken in
-    let n = d .before .before .before .read-number in
+    let n = d .before .before .before .read-item in
     let read = number-answered (n .result) (d .before .item .given .1) (n .ensures) in
     asks (loop .inv) inside read (omega (arith, c .before .if1 .left, loop .inv .low)) (c .power .ensures)
 
@@ -71,7 +71,7 @@ loop-again c =
     let d = c .before .before .before in
     let loop = d .before .before .before .before .before .loop in
     let inside = d .before .before .before .before .loop-test .taken in
-    let n = d .before .before .before .read-number in
+    let n = d .before .before .before .read-item in
     let read = number-answered (n .result) (d .before .item .given .1) (n .ensures) in
     again (loop .inv) inside read (omega (arith, c .before .before .if1 .left, loop .inv .low)) (c .before .power .ensures) (c .product .ensures)
 
@@ -86,7 +86,7 @@ read-exponents-spec =
     μ-loop
     empty-requires
     loop-holds
-    read-number-requires
+    read-item-requires
     enum-known-item
     returns
     sub-if1

@@ -3,8 +3,8 @@ use lib.ListN.{length}
 use Rattle.numbers.proofs.Items.{stopped, is-value}
 use Rattle.packed.proofs.Taking.{each-stops, each-taken}
 use borrow.Author.Needs.{needs}
-use Rattle.packed.proofs.take_each.Statement.{statement}
-use Rattle.packed.proofs.take_each.Tie as tie
+use Rattle.packed.proofs.items.take_each.Statement.{statement}
+use Rattle.packed.proofs.items.take_each.Tie as tie
 
 take-terms-requires : tie.Need-take-terms-requires
 take-terms-requires c κs = search needs

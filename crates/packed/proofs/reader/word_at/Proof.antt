@@ -9,8 +9,8 @@ use lib.Seq.{getD-take, getD-drop, length-take-le}
 use Rattle.algebra.specs.Limits.{variables}
 use Rattle.algebra.specs.Pattern.{exponent}
 use Rattle.packed.proofs.WordAt.{Joining, start, again, ended}
-use Rattle.packed.proofs.word_at.Statement.{statement}
-use Rattle.packed.proofs.word_at.Tie as tie
+use Rattle.packed.proofs.reader.word_at.Statement.{statement}
+use Rattle.packed.proofs.reader.word_at.Tie as tie
 
 -- the eight bytes
 part-long : (s : List ℕ) (at : ℕ) → at + variables ≤ length s → length (take variables (drop at s)) ≡ variables

@@ -6,18 +6,18 @@ use Rattle.numbers.specs.Item.{Item.got}
 use Rattle.numbers.specs.Number.{readNumber}
 use Rattle.numbers.proofs.Items.{number-stopped, number-answered}
 use Rattle.packed.proofs.ReadItems.{size-is, coefficient-stopped, coefficient-zero, coefficient-heavy, coefficient-taken}
-use Rattle.packed.proofs.read_coefficient.Statement.{statement}
-use Rattle.packed.proofs.read_coefficient.Tie as tie
+use Rattle.packed.proofs.items.read_coefficient.Statement.{statement}
+use Rattle.packed.proofs.items.read_coefficient.Tie as tie
 
-read-number-requires : tie.Need-read-number-requires
-read-number-requires c κs = search needs
+read-item-requires : tie.Need-read-item-requires
+read-item-requires c κs = search needs
 
 enum-known-item : tie.Need-enum-known-item
 enum-known-item c = search needs
 
 returns : tie.Need-returns
 returns c =
-    coefficient-stopped _ _ _ (number-stopped (c .before .read-number .result) (c .match .keys2) _ (c .before .read-number .ensures))
+    coefficient-stopped _ _ _ (number-stopped (c .before .read-item .result) (c .match .keys2) _ (c .before .read-item .ensures))
 
 decode-requires : tie.Need-decode-requires
 decode-requires c κs = search needs
@@ -29,7 +29,7 @@ absolute-requires c κs = search needs
 read : (d : tie.After-known-told)
     → let args = d .before .before .before .before .before .args in
     readNumber (args .bytes .now) (args .at) ≡ got (d .before .item .given .0 .0) (d .before .item .given .0 .1 .0)
-read d = let n = d .before .before .before .read-number in number-answered (n .result) (d .before .item .given .1) (n .ensures)
+read d = let n = d .before .before .before .read-item in number-answered (n .result) (d .before .item .given .1) (n .ensures)
 
 returns-2 : tie.Need-returns-2
 returns-2 c =
@@ -55,4 +55,4 @@ returns-4 c =
 pub read-coefficient-spec : {M : Type 1} → statement M
 read-coefficient-spec =
     tie.close
-    (tie.spec read-number-requires enum-known-item returns decode-requires absolute-requires returns-2 sub-if2 returns-3 returns-4)
+    (tie.spec read-item-requires enum-known-item returns decode-requires absolute-requires returns-2 sub-if2 returns-3 returns-4)

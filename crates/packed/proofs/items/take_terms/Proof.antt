@@ -10,8 +10,8 @@ use Rattle.packed.specs.ReadSum.{readCoefficient, readExponents}
 use Rattle.algebra.specs.Held.{wordFor}
 use Rattle.packed.proofs.ReadItems.{number-is, size-is}
 use Rattle.packed.proofs.TakeTerms.{Takes, start, first-stops, rest-stops, heavier, valid, disorder, again, ended, refuses}
-use Rattle.packed.proofs.take_terms.Statement.{statement}
-use Rattle.packed.proofs.take_terms.Tie as tie
+use Rattle.packed.proofs.items.take_terms.Statement.{statement}
+use Rattle.packed.proofs.items.take_terms.Tie as tie
 
 abbrev Inv-loop : tie.InvT-loop
 Inv-loop bytes at powers count patterns₀ coefficients₀ place₀ weight₀ last₀ k₀ patterns coefficients place weight last k =

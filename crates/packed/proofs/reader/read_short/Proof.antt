@@ -4,8 +4,8 @@ use Prim.Native.Nat.{_+_}
 use native.Mathlib.Omega.{arith}
 use Rattle.numbers.proofs.Numbers.{number-byte, number-pair}
 use borrow.Author.Needs.{needs}
-use Rattle.packed.proofs.read_short.Statement.{statement}
-use Rattle.packed.proofs.read_short.Tie as tie
+use Rattle.packed.proofs.reader.read_short.Statement.{statement}
+use Rattle.packed.proofs.reader.read_short.Tie as tie
 
 shared-slice-read-low : tie.Need-shared-slice-read-low
 shared-slice-read-low c = search needs

@@ -11,8 +11,8 @@ use Rattle.numbers.proofs.Items.{number-answered}
 use Rattle.numbers.proofs.Numbers.{number-inside}
 use Rattle.packed.proofs.CopyTerms.{Copying, start, again, stops, ended}
 use Rattle.packed.proofs.ReadItems.{number-is}
-use Rattle.packed.proofs.copy_terms.Statement.{statement}
-use Rattle.packed.proofs.copy_terms.Tie as tie
+use Rattle.packed.proofs.fast.copy_terms.Statement.{statement}
+use Rattle.packed.proofs.fast.copy_terms.Tie as tie
 
 abbrev Inv-loop : tie.InvT-loop
 Inv-loop bytes at count patterns₀ coefficients₀ place₀ k₀ patterns coefficients place k = Copying bytes at count patterns₀ coefficients₀ patterns coefficients place k
@@ -23,7 +23,7 @@ abbrev μ-loop : tie.MeasureT-loop
 -- the number that was read; it ends inside, and there is room for eight bytes
 read : (d : tie.After-known-told Inv-loop μ-loop)
     → readNumber (d .before .before .before .before .before .before .before .before .args .bytes .now) (d .before .before .before .before .before .loop .place) ≡ got (d .before .item .given .0 .0) (d .before .item .given .0 .1 .0)
-read d = let r = d .before .before .before .read-short in number-answered (r .result) (d .before .item .given .1) (r .ensures)
+read d = let r = d .before .before .before .read-item in number-answered (r .result) (d .before .item .given .1) (r .ensures)
 
 inside : (d : tie.After-known-told Inv-loop μ-loop) → d .before .item .given .0 .1 .0 ≤ length (d .before .before .before .before .before .before .before .before .args .bytes .now)
 inside d = number-inside _ _ _ _ (read d) .1
@@ -34,8 +34,8 @@ room e = omega (arith, inside (e .before), e .if1 .left)
 loop-holds : tie.Need-loop-holds Inv-loop μ-loop
 loop-holds c = let pre = c .before .before .pre in start _ _ _ _ _ (pre .0) (pre .1)
 
-read-short-requires : tie.Need-read-short-requires Inv-loop μ-loop
-read-short-requires c κs = search needs
+read-item-requires : tie.Need-read-item-requires Inv-loop μ-loop
+read-item-requires c κs = search needs
 
 enum-known-item : tie.Need-enum-known-item Inv-loop μ-loop
 enum-known-item c = search needs
@@ -64,8 +64,8 @@ returns-2 c = stops (c .before .before .before .before .before .before .loop .in
 decode-requires : tie.Need-decode-requires Inv-loop μ-loop
 decode-requires c κs = search needs
 
-word-at-requires : tie.Need-word-at-requires Inv-loop μ-loop
-word-at-requires c κs = room (c .before)
+read-word-requires : tie.Need-read-word-requires Inv-loop μ-loop
+read-word-requires c κs = room (c .before)
 
 mul-patterns : tie.Need-mul-patterns Inv-loop μ-loop
 mul-patterns c = search needs
@@ -93,7 +93,7 @@ loop-again c =
     let e = c .before .before in
     let d = e .before in
     let value = number-is (d .before .item .given .0 .0) (search needs) (c .before .decode .ensures) in
-    again (d .before .before .before .before .before .loop .inv) (λ i. d .before .before .before .before .before .before .before .shared-slice-known .given i .fits) (d .before .before .before .before .loop-test .taken) (read d) (room e) (c .word-at .ensures) value
+    again (d .before .before .before .before .before .loop .inv) (λ i. d .before .before .before .before .before .before .before .shared-slice-known .given i .fits) (d .before .before .before .before .loop-test .taken) (read d) (room e) (c .read-word .ensures) value
 
 same-length-5 : tie.Need-same-length-5 Inv-loop μ-loop
 same-length-5 c = search needs
@@ -111,7 +111,7 @@ copy-terms-spec =
     Inv-loop
     μ-loop
     loop-holds
-    read-short-requires
+    read-item-requires
     enum-known-item
     same-length
     same-length-2
@@ -121,7 +121,7 @@ copy-terms-spec =
     same-length-4
     returns-2
     decode-requires
-    word-at-requires
+    read-word-requires
     mul-patterns
     slice-write-patterns
     mul-coefficient

@@ -9,8 +9,8 @@ use lib.ListN.{getD}
 use mir.Syntax.{w64}
 use mir.ValLaws.{toZ-ofZ}
 use Rattle.packed.proofs.GoodTerms.{Judging, start, ended, Meeting, zero-stops, heavy-stops, high-stops, early-stops, again}
-use Rattle.packed.proofs.good_terms.Statement.{statement}
-use Rattle.packed.proofs.good_terms.Tie as tie
+use Rattle.packed.proofs.fast.good_terms.Statement.{statement}
+use Rattle.packed.proofs.fast.good_terms.Tie as tie
 
 abbrev Inv-loop : tie.InvT-loop
 Inv-loop patterns coefficients count weight₀ degree₀ last₀ k₀ weight degree last k = Judging patterns coefficients count weight degree last k

@@ -8,8 +8,8 @@ use borrow.Author.Tests.{eq-eqb, ne-eqb}
 use Rattle.algebra.specs.Sum.{isBefore}
 use Rattle.algebra.specs.Standing.{standing}
 use Rattle.algebra.specs.declared.Standing.{Standing}
-use Rattle.packed.proofs.stands_after.Statement.{statement}
-use Rattle.packed.proofs.stands_after.Tie as tie
+use Rattle.packed.proofs.items.stands_after.Statement.{statement}
+use Rattle.packed.proofs.items.stands_after.Tie as tie
 
 -- the answer of the comparison, of a pattern that is not the first
 judged : {k : ℕ} {s t : Standing} {o : Ordering} → (k ≡ 0 → ⊥) → s ≡ t → standing s ≡ o → isBefore (standing t) ≡ (eqb k 0 || isBefore o)

@@ -2,8 +2,8 @@
 use native.Mathlib.Omega.{arith}
 use Rattle.packed.proofs.Taking.{not-good, all-good}
 use borrow.Author.Needs.{needs}
-use Rattle.packed.proofs.take_good.Statement.{statement}
-use Rattle.packed.proofs.take_good.Tie as tie
+use Rattle.packed.proofs.fast.take_good.Statement.{statement}
+use Rattle.packed.proofs.fast.take_good.Tie as tie
 
 copy-terms-requires : tie.Need-copy-terms-requires
 copy-terms-requires c κs = search needs
