@@ -8,8 +8,7 @@ pub mod Slope
 pub mod Substitute
 pub mod Margin
 pub mod Word
-pub mod Rank
-pub mod Either
 pub mod Held
 pub mod Accepted
 pub mod Standing
+pub mod Inside

@@ -1,12 +1,13 @@
-// Power patterns, each in one machine word.
+// Power patterns, each in one machine word. What a sum is, and the laws of sums, need no code: they stand in specs/ and proofs/.
+// Begin with specs/Pattern.antt, Sum.antt and Collect.antt, then with `Pattern`.
 ghost use mathlib.Core.Path.{_≡_};
 ghost use Prim.Native.Nat.{_+_, _*_, _-_, _≤_, _<_};
 ghost use lib.ListN.{set};
 ghost use Rattle.algebra.specs.Limits.{variables, largestDegree, mostTerms, largestWeight, mostNodes, workPlaces};
-ghost use Rattle.algebra.specs.Either.{either};
+ghost use Rattle.algebra.specs.Inside.Either.{either};
 ghost use Rattle.algebra.specs.Pattern.{emptyPattern, times, degree, exponent, lowered, without, order};
 ghost use Rattle.algebra.specs.Word.{word, exponents, Valid};
-ghost use Rattle.algebra.specs.Rank.{rankOf, wordAt};
+ghost use Rattle.algebra.specs.Inside.Rank.{rankOf, wordAt};
 ghost use Rattle.algebra.specs.Standing.{standing};
 
 // The limits of a sum and of a formula. (Those of a pattern are the pattern's own.)

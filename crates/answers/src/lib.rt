@@ -1,4 +1,5 @@
 // What an operation answers: done with a number, or refused with a place.
+// Begin with specs/Refusals.antt and specs/Answers.antt, then with `areas`: what is done to the first places of a lent area.
 ghost use mathlib.Core.Path.{_≡_};
 ghost use Prim.Native.Nat.{_≤_};
 ghost use lib.Dec.{T};

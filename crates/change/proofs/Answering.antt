@@ -21,7 +21,7 @@ use Rattle.packed.specs.Result.{packedInto}
 use Rattle.packed.proofs.Results.{Handed, sum-given, sum-refused}
 use Rattle.change.specs.Pairs.{Pair, Listed, Listed.listed, mapped, readList, listJudged}
 use Rattle.change.specs.Substitute.{judgePairs, judgeSubstitute}
-use Rattle.change.specs.Kept.{listedOf, listFault, pairsFrom, Kept, KeepsRead, CanApply, termsTold, HoldsGood}
+use Rattle.change.specs.Inside.Kept.{listedOf, listFault, pairsFrom, Kept, KeepsRead, CanApply, termsTold, HoldsGood}
 use Rattle.change.specs.declared.lists.Listed as list
 use Rattle.change.specs.declared.lists.Listed.the-variants.{Pairs}
 use Rattle.change.proofs.lists.Listed as list-answer

@@ -31,7 +31,7 @@ use Rattle.sums.proofs.Parts.{lent-front}
 use Rattle.pair.specs.Asked.{Given}
 use Rattle.change.specs.Pairs.{Pair, pair}
 use Rattle.change.specs.Substitute.{judgePair, judgePairs}
-use Rattle.change.specs.Kept.{pairAt, pairsFrom, KeptAt, CanApply}
+use Rattle.change.specs.Inside.Kept.{pairAt, pairsFrom, KeptAt, CanApply}
 use Rattle.change.proofs.Passing.{judge-passes}
 use Rattle.change.proofs.Meaning.{after-accepted}
 use Rattle.change.proofs.Told.{Ensured, Stands, stands-ensured, done-stands, refused-ensured}

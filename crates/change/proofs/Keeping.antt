@@ -20,7 +20,7 @@ use Rattle.sums.specs.Part.{part}
 use Rattle.sums.proofs.Holding.{spells, accepted-holdable, holds-sum}
 use Rattle.sums.proofs.Parts.{span, lent, part-length, part-put, before-put, after-put, part-before, drop-further}
 use Rattle.change.specs.Pairs.{Pair, pair}
-use Rattle.change.specs.Kept.{pairAt, pairsFrom, KeptAt, Kept}
+use Rattle.change.specs.Inside.Kept.{pairAt, pairsFrom, KeptAt, Kept}
 
 -- ---- One pair.
 

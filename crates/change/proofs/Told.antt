@@ -17,7 +17,7 @@ use Rattle.answers.proofs.Answer.{the-type}
 use Rattle.answers.proofs.Judging.{good-fails, refused-done}
 use Rattle.answers.proofs.Writes.{written-front}
 use Rattle.packed.specs.Result.{heldInto}
-use Rattle.change.specs.Kept.{termsTold, HoldsGood}
+use Rattle.change.specs.Inside.Kept.{termsTold, HoldsGood}
 
 -- what is to be ensured of an answer, with two areas
 abbrev pub Ensured : Judged Sum → List ℕ → List ℤ → Told → Type 0

@@ -1,6 +1,6 @@
 pub mod Slope
 pub mod Pairs
-pub mod Kept
 pub mod Substitute
 pub mod Meaning
 pub mod Checks
+pub mod Inside

@@ -16,7 +16,7 @@ ghost use Rattle.sums.specs.Asked.{Room};
 ghost use Rattle.pair.specs.Asked.{Given};
 ghost use Rattle.change.specs.Pairs.{pair};
 ghost use Rattle.change.specs.Substitute.{judgePair, judgePairs};
-ghost use Rattle.change.specs.Kept.{pairsFrom, CanApply, termsTold, HoldsGood};
+ghost use Rattle.change.specs.Inside.Kept.{pairsFrom, CanApply, termsTold, HoldsGood};
 
 // Pair j: the sum in `sp` and `sc` is put for v in the sum in `fp` and `fc`, if degree, weight and spread allow it. Done, it returns the number of terms.
 fn apply_pair(

@@ -1,4 +1,5 @@
 // What is done to packed sums: the slope by a variable, and sums put for variables.
+// Begin with specs/Slope.antt and specs/Substitute.antt, then with `slope` and `substitute`.
 use algebra::LARGEST_WEIGHT;
 use algebra::MOST_TERMS;
 use algebra::Pattern;

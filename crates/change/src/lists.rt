@@ -11,7 +11,7 @@ ghost use Rattle.algebra.specs.Limits.{variables, workPlaces};
 ghost use Rattle.answers.specs.Answers.{told};
 ghost use Rattle.numbers.specs.Read.{itemOf};
 ghost use Rattle.change.specs.Pairs.{mapped, readPairs, readList};
-ghost use Rattle.change.specs.Kept.{listedOf, itemFault, listFault, KeepsRead};
+ghost use Rattle.change.specs.Inside.Kept.{listedOf, itemFault, listFault, KeepsRead};
 
 // Why a list is at fault.
 pub enum Fault {

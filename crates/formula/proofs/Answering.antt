@@ -27,7 +27,7 @@ use Rattle.sums.specs.Part.{part}
 use Rattle.answers.specs.Judge.{Judged, Judged.good, Judged.fails, andThen}
 use Rattle.formula.specs.Table.{Entry, judgeNodes, isShape}
 use Rattle.formula.specs.Simplify.{lastSum, tableSum}
-use Rattle.formula.specs.Last.{termsTold, KeepsLast}
+use Rattle.formula.specs.Inside.Last.{termsTold, KeepsLast}
 use Rattle.sums.proofs.Parts.{span, lent, lent-length}
 use Rattle.formula.proofs.Passing.{passed-length, table-length, shape-judge, no-shape-judge, judge-says}
 use Rattle.formula.proofs.Meaning.{last-accepted}

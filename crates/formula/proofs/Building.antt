@@ -31,8 +31,8 @@ use Rattle.formula.specs.Table.{Entry, entry, degrees, weights, sums, en
 use Rattle.formula.specs.Checks.{Passed, Passed.none, Passed.more, Fault, Fault.node as node-fault, Fault.degree as degree-fault, Fault.weight as weight-fault, Fault.spread as spread-fault}
 use Rattle.sums.specs.Part.{part}
 use Rattle.formula.specs.Simplify.{lastSum}
-use Rattle.nodes.specs.Work.{sumsAt, Keeps, nodeFormed, FormedAt}
-use Rattle.formula.specs.Last.{termsTold, KeepsLast}
+use Rattle.nodes.specs.Inside.Work.{sumsAt, Keeps, nodeFormed, FormedAt}
+use Rattle.formula.specs.Inside.Last.{termsTold, KeepsLast}
 use Rattle.nodes.proofs.Found.{the-type as found-type}
 use Rattle.sums.proofs.Parts.{drop-further}
 use Rattle.nodes.proofs.Spelled.{readNumbers, Spells, read-says}

@@ -18,8 +18,8 @@ use Rattle.sums.specs.Part.{part}
 use Rattle.answers.specs.Judge.{Judged, Judged.good, Judged.fails}
 use Rattle.formula.specs.Table.{Entry, entry, sums}
 use Rattle.formula.specs.Simplify.{lastSum}
-use Rattle.nodes.specs.Work.{sumsAt, Keeps}
-use Rattle.formula.specs.Last.{KeepsLast}
+use Rattle.nodes.specs.Inside.Work.{sumsAt, Keeps}
+use Rattle.formula.specs.Inside.Last.{KeepsLast}
 use Rattle.formula.proofs.Sound.{nodeAt, AllSound, sum-of, sound-accepted}
 use Rattle.sums.proofs.Parts.{part-before}
 use Rattle.nodes.proofs.Working.{sums-length, sum-there}

@@ -2,4 +2,4 @@ pub mod Table
 pub mod Simplify
 pub mod Meaning
 pub mod Checks
-pub mod Last
+pub mod Inside

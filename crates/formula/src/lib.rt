@@ -1,4 +1,5 @@
 // Formula tables, and Simplify.
+// Begin with specs/Table.antt and specs/Simplify.antt, then with `simplify`; what a formula means is in specs/Meaning.antt.
 use algebra::LARGEST_WEIGHT;
 use algebra::MOST_NODES;
 use algebra::MOST_TERMS;
@@ -22,7 +23,7 @@ ghost use Rattle.packed.specs.Packed.{mostBytes};
 ghost use Rattle.packed.specs.Result.{packedInto};
 ghost use Rattle.formula.specs.Table.{judgeNodes, isShape};
 ghost use Rattle.formula.specs.Simplify.{tableSum, simplify};
-ghost use Rattle.formula.specs.Last.{termsTold, KeepsLast};
+ghost use Rattle.formula.specs.Inside.Last.{termsTold, KeepsLast};
 
 // Whether a table's length is 3 × (1..64).
 fn is_shape(n: usize) -> bool

@@ -1,4 +1,5 @@
 // Every operation, for a C host: each exported function does nothing but call the operation, and gives its answer as one number.
+// Begin with specs/Unit.antt, then with any of the functions; include/reeveboom.h declares them.
 ghost use mathlib.Core.Path.{_≡_};
 ghost use Rattle.answers.specs.Host.{hosted};
 ghost use Rattle.text.specs.Text.{readFormula};

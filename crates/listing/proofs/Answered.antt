@@ -36,7 +36,7 @@ use Rattle.text.specs.Tree.{Tree, nodesOf}
 use Rattle.text.specs.Text.{judgeText, tableInto, readFormula, textSum}
 use Rattle.answers.proofs.Judging.{good-fails}
 use Rattle.text.proofs.Trees.{nodes-length}
-use Rattle.listing.specs.Bytes.{Packs}
+use Rattle.listing.specs.Inside.Bytes.{Packs}
 use Rattle.listing.specs.Lines.{mostLines, sumLines, refusalLine}
 use Rattle.listing.specs.Listing.{listed, withoutNewline, list}
 

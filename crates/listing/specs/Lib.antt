@@ -1,4 +1,4 @@
 pub mod Decimal
 pub mod Lines
 pub mod Listing
-pub mod Bytes
+pub mod Inside

@@ -1,4 +1,5 @@
 // What the program `terms` prints of a typed formula: the terms of its sum, or a refusal.
+// Begin with specs/Listing.antt, then with `list`.
 use algebra::MOST_TERMS;
 use algebra::Pattern;
 use algebra::WORK_PLACES;
@@ -13,7 +14,7 @@ ghost use Rattle.answers.specs.Areas.{written};
 ghost use Rattle.algebra.specs.Sum.{Sum};
 ghost use Rattle.text.specs.Text.{textSum};
 ghost use Rattle.listing.specs.Lines.{mostLines, sumLines};
-ghost use Rattle.listing.specs.Bytes.{Packs, Packed};
+ghost use Rattle.listing.specs.Inside.Bytes.{Packs, Packed};
 ghost use Rattle.formula.specs.Simplify.{tableSum};
 ghost use Rattle.listing.specs.Listing.{listed, withoutNewline, mostInput, list};
 

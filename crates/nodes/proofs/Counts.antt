@@ -11,7 +11,7 @@ use Rattle.algebra.specs.Sum.{Sum}
 use Rattle.algebra.specs.Arithmetic.{sumSpread}
 use Rattle.algebra.specs.Word.{exponents, Valid}
 use Rattle.sums.proofs.Merging.{none}
-use Rattle.nodes.specs.Direct.{sumIn, Operand, Place, nextStands}
+use Rattle.nodes.specs.Inside.Direct.{sumIn, Operand, Place, nextStands}
 use Rattle.nodes.proofs.Joining.{Counting, count-start, count-ended, next-first, next-second, next-both, counts-first, counts-second, counts-both}
 use Rattle.nodes.proofs.Operands.{There, there, terms-are, strict, term-is, valid-at}
 

@@ -18,7 +18,7 @@ use Rattle.algebra.specs.Arithmetic.{_⊕_, sumSpread}
 use Rattle.algebra.proofs.Numbers.Test.{true-is}
 use Rattle.algebra.proofs.Sums.Ordered.{is-before, order-back, order-tail, full-head, full-tail}
 use Rattle.sums.proofs.Merging.{none}
-use Rattle.nodes.specs.Direct.{nextStands}
+use Rattle.nodes.specs.Inside.Direct.{nextStands}
 use Rattle.nodes.proofs.Heads.{sum-first, spread-first, sum-second, spread-second, sum-both, spread-both}
 
 -- ---- Which term is next.

@@ -19,8 +19,8 @@ use Rattle.algebra.proofs.Sums.Results.{sum-length}
 use Rattle.answers.proofs.Signed.{fits-abs}
 use Rattle.sums.specs.Formed.{Formed.formed, formedInto}
 use Rattle.sums.proofs.Merging.{none}
-use Rattle.nodes.specs.Work.{FormedAt}
-use Rattle.nodes.specs.Direct.{sumIn, Operand, Place, nextStands}
+use Rattle.nodes.specs.Inside.Work.{FormedAt}
+use Rattle.nodes.specs.Inside.Direct.{sumIn, Operand, Place, nextStands}
 use Rattle.nodes.proofs.Forwards as forwards
 use Rattle.nodes.proofs.Forwards.{Forwards, begins, again, kept}
 use Rattle.nodes.proofs.Joining.{Joining, start, bounded, ended, next-first, next-second, next-both, takes-first, takes-second, takes-both, drops-both}

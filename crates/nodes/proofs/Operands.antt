@@ -19,7 +19,7 @@ use Rattle.sums.specs.Part.{part}
 use Rattle.sums.proofs.Holding.{terms-many, term-at, degree-at, size-at, each-valid}
 use Rattle.sums.proofs.Merging.{none}
 use Rattle.sums.proofs.Parts.{part-length}
-use Rattle.nodes.specs.Direct.{sumIn, Operand, Place}
+use Rattle.nodes.specs.Inside.Direct.{sumIn, Operand, Place}
 
 -- a place of the first n of a part
 part-at : {A : Type 0} (a n x : ℕ) (xs : List A) (d : A) → x < n → n ≤ mostTerms → getD (take n (part a xs)) x d ≡ getD xs (mostTerms * a + x) d

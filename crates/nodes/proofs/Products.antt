@@ -28,8 +28,8 @@ use Rattle.sums.specs.Formed.{Formed.formed}
 use Rattle.sums.proofs.MakeRow.{row-length, row-at}
 use Rattle.sums.proofs.Merging.{none}
 use Rattle.sums.proofs.OneTerm.{term-product, term-spread}
-use Rattle.nodes.specs.Work.{FormedAt}
-use Rattle.nodes.specs.Direct.{sumIn, Operand, Place}
+use Rattle.nodes.specs.Inside.Work.{FormedAt}
+use Rattle.nodes.specs.Inside.Direct.{sumIn, Operand, Place}
 use Rattle.nodes.proofs.Forwards.{Forwards, begins, again, kept}
 use Rattle.nodes.proofs.Merges.{formed-there}
 use Rattle.nodes.proofs.Operands.{There, there, terms-are, strict, full, term-is, valid-at, light-at, low-at}

@@ -17,8 +17,8 @@ use Rattle.algebra.proofs.Sums.Spreads.{product-spread-comm}
 use Rattle.sums.specs.Formed.{Formed.formed, Formed.over, within, sumOf, productOf}
 use Rattle.sums.proofs.Forming.{within-yes}
 use Rattle.nodes.specs.Node.{Kind.sum, Kind.product}
-use Rattle.nodes.specs.Work.{sumsAt, nodeFormed, Ready}
-use Rattle.nodes.specs.Direct.{sumIn, Operand, Place}
+use Rattle.nodes.specs.Inside.Work.{sumsAt, nodeFormed, Ready}
+use Rattle.nodes.specs.Inside.Direct.{sumIn, Operand, Place}
 use Rattle.nodes.proofs.Formally.{two-children}
 use Rattle.nodes.proofs.Operands.{terms-are}
 use Rattle.nodes.proofs.Products.{Multiplies, product-few}

@@ -15,7 +15,7 @@ use Rattle.sums.proofs.Unique.{formed-one}
 use Rattle.answers.specs.Judge.{Judged, Judged.good, Judged.fails}
 use Rattle.nodes.specs.Node.{Kind, Kind.integer, Kind.variable, Kind.sum, Kind.product, Kind.power, kindOf, foundOf}
 use Rattle.sums.specs.Part.{part}
-use Rattle.nodes.specs.Work.{FormedAt}
+use Rattle.nodes.specs.Inside.Work.{FormedAt}
 use Rattle.nodes.specs.declared.Kind as code
 use Rattle.nodes.specs.declared.Kind.the-variants.{Integer, Variable, Sum, Product, Power}
 use Rattle.nodes.specs.declared.Found as answer

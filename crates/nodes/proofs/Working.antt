@@ -24,8 +24,8 @@ use Rattle.nodes.specs.Formal.{formalDegree, formalWeight, nodeSpread, n
 use Rattle.sums.proofs.Holding.{terms-many, holdable}
 use Rattle.sums.proofs.Fronts.{Placed, placed-written, placed-is}
 use Rattle.sums.specs.Part.{part}
-use Rattle.nodes.specs.Work.{sumAt, sumsAt, Keeps, nodeFormed, FormedAt, Ready}
-use Rattle.nodes.specs.Direct.{sumIn, Operand, Place}
+use Rattle.nodes.specs.Inside.Work.{sumAt, sumsAt, Keeps, nodeFormed, FormedAt, Ready}
+use Rattle.nodes.specs.Inside.Direct.{sumIn, Operand, Place}
 use Rattle.sums.proofs.Parts.{span, lent, lent-length, part-length, part-put, before-put, after-put}
 
 -- ---- Operands.

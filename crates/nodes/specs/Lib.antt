@@ -1,4 +1,3 @@
 pub mod Node
 pub mod Formal
-pub mod Work
-pub mod Direct
+pub mod Inside

@@ -14,8 +14,8 @@ ghost use Rattle.algebra.specs.Arithmetic.{_⊕_, sumSpread, _⊗_};
 ghost use Rattle.algebra.specs.Standing.{standing};
 ghost use Rattle.algebra.specs.Word.{exponents, Valid};
 ghost use Rattle.sums.specs.Formed.{Formed.formed};
-ghost use Rattle.nodes.specs.Work.{FormedAt};
-ghost use Rattle.nodes.specs.Direct.{sumIn, Operand, Place, nextStands};
+ghost use Rattle.nodes.specs.Inside.Work.{FormedAt};
+ghost use Rattle.nodes.specs.Inside.Direct.{sumIn, Operand, Place, nextStands};
 
 // How two terms stand to each other: x of the n terms from place p on are done, and y of the m from place q on. Where one of the two has no terms left, the other one's is next.
 fn stands(patterns: &[u64], p: usize, x: usize, n: usize, q: usize, y: usize, m: usize) -> Standing

@@ -1,4 +1,5 @@
 // Nodes of a formula: read from their three numbers, their formal degree and weight, and their sums in the work areas.
+// Begin with specs/Node.antt and specs/Formal.antt, then with `Kind`, `read_node` and `make_node`; `work` forms a node's sum.
 use algebra::Pattern;
 ghost use mathlib.Core.Path.{_≡_};
 ghost use lib.Dec.{T};

@@ -12,7 +12,7 @@ ghost use Rattle.answers.specs.Areas.{written};
 ghost use Rattle.sums.specs.Formed.{formedOf};
 ghost use Rattle.nodes.specs.Node.{kindOf, Kind.sum, Kind.product, Kind.power};
 ghost use Rattle.sums.specs.Part.{part};
-ghost use Rattle.nodes.specs.Work.{sumsAt, nodeFormed, Ready, FormedAt};
+ghost use Rattle.nodes.specs.Inside.Work.{sumsAt, nodeFormed, Ready, FormedAt};
 
 // Where a few terms are copied.
 const FEW_TERMS: usize = 8;

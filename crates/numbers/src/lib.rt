@@ -1,4 +1,5 @@
 // Whole numbers in groups of seven bits, and signed numbers as codes.
+// Begin with specs/Number.antt and specs/Code.antt, then with `read_number` and `code`.
 ghost use mathlib.Core.Path.{_≡_};
 ghost use Prim.Native.Nat.{_+_, _≤_};
 ghost use lib.IntN.{natAbs};

@@ -19,7 +19,7 @@ use Rattle.numbers.specs.Number.{numberBytes, readNumber}
 use Rattle.numbers.specs.Code.{code, decode}
 use Rattle.numbers.proofs.Codes.{code-decode}
 use Rattle.packed.specs.Packed.{exponentBytes, termBytes, bytesOfTerms}
-use Rattle.packed.specs.Arrays.{Copies}
+use Rattle.packed.specs.Inside.Arrays.{Copies}
 use Rattle.packed.proofs.Good.{AllValid, terms-good}
 use Rattle.packed.proofs.Sizes.{exponent-bytes-are}
 use Rattle.packed.proofs.Trip.{Stands, stands-none, stands-both, number-stands, terms-read}

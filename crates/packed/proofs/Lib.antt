@@ -17,6 +17,7 @@ pub mod Writing
 pub mod WriteSum
 pub mod Packing
 pub mod Inverse
+pub mod Refusing
 pub mod Working
 pub mod Results
 pub mod ReaderForms

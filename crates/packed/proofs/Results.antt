@@ -9,7 +9,7 @@ use denote.Enum.Declared.{tagOf}
 use lib.IntN.{ℤ}
 use lib.ListN.{length, getD, length-map}
 use lib.Seq.{sets, sets-eq}
-use Rattle.algebra.specs.Limits.{variables, largestDegree, mostTerms}
+use Rattle.algebra.specs.Limits.{variables, largestDegree}
 use Rattle.algebra.specs.Sum.{Sum}
 use Rattle.algebra.specs.Word.{terms}
 use Rattle.algebra.specs.Accepted.{Accepted}
@@ -17,14 +17,13 @@ use Rattle.algebra.specs.Held.{wordsOf, coefficientsOf, firstTerms}
 use Rattle.algebra.proofs.Sums.Every.{degree-every}
 use Rattle.algebra.proofs.Sums.Ordered.{parts}
 use Rattle.algebra.proofs.Sums.Held.{terms-again}
-use Rattle.answers.specs.Refusals.{SUM, number}
+use Rattle.answers.specs.Refusals.{SUM}
 use Rattle.answers.specs.Answers.{Told, Told.done, Told.refused, told, outcome}
 use Rattle.answers.specs.Areas.{written}
 use Rattle.answers.specs.Judge.{Judged, Judged.good, Judged.fails, andThen}
 use Rattle.answers.specs.declared.Answer.{Answer}
-use Rattle.answers.specs.declared.Answer.the-variants.{Done, Refused}
 use Rattle.answers.proofs.Answer.{the-type}
-use Rattle.answers.proofs.Judging.{then-good, then-fails, refused-done}
+use Rattle.answers.proofs.Judging.{then-good, then-fails}
 use Rattle.answers.proofs.Writes.{written-front}
 use Rattle.numbers.specs.Item.{Item, Item.got, Item.cut, Item.bad, mapped, placeOf}
 use Rattle.numbers.specs.Read.{itemOf}
@@ -34,17 +33,16 @@ use Rattle.numbers.proofs.Read.{the-type as read-type}
 use Rattle.numbers.proofs.Items.{Alike, Alike.both-cut, Alike.both-bad, alike-then, stopped, answered, number-stopped}
 use Rattle.packed.specs.Packed.{packed, mostBytes}
 use Rattle.packed.specs.ReadSum.{readWhole}
-use Rattle.packed.specs.Held.{readInto, readCount, readRest}
+use Rattle.packed.specs.Inside.Held.{readInto, readCount, readRest}
 use Rattle.packed.specs.Whole.{judged, fault}
-use Rattle.packed.specs.Unpack.{unpack}
-use Rattle.packed.specs.Result.{heldInto, wholeInto, packedInto}
+use Rattle.packed.specs.Result.{packedInto}
+use Rattle.packed.specs.Inside.Arrays.{wholeInto}
 use Rattle.packed.proofs.Sizes.{packed-most}
 use Rattle.packed.proofs.Trip.{whole-read, whole-written}
 use Rattle.packed.proofs.Places.{place-small}
 use Rattle.packed.proofs.TakeSum.{whole-split, whole-rest}
 use Rattle.packed.proofs.Taking.{ReadAt}
-use Rattle.packed.proofs.Unpacking.{has-room, is-done, whole-refused, whole-done}
-use Rattle.packed.proofs.Inverse.{Unpacks, unpack-accepted}
+use Rattle.packed.proofs.Unpacking.{is-done, whole-refused, whole-done}
 
 -- ---- The bytes that are given.
 
@@ -83,15 +81,6 @@ reading bytes byte = go (readWhole variables bytes) refl
     go (cut place) e = a-fault place (is-cut e)
     go (bad place) e = a-fault place (is-bad e)
 
--- ---- What `unpack` answers, whose areas have room for every sum.
-
-pub unpacks-sum : {bytes ws : List ℕ} {cs : List ℤ} {count : ℕ} {ws' : List ℕ} {cs' : List ℤ} (u : Unpacks bytes ws cs count ws' cs') → PackedSum bytes (u .sum)
-unpacks-sum u = record { accepted = u .accepted; bytes-are = u .bytes-are }
-
-pub unpack-done : {bytes : List ℕ} (ws : List ℕ) (cs : List ℤ) {ws' : List ℕ} {cs' : List ℤ} {count : ℕ} {r : Answer} → ((i : ℕ) → getD bytes i 0 < 256) → r ≡ Done count
-    → outcome (told r) (ws', cs') ≡ unpack bytes ws cs → Unpacks bytes ws cs count ws' cs'
-unpack-done ws cs {ws'} {cs'} byte is e = unpack-accepted byte (sym e ∙ ap (λ r. outcome (told r) (ws', cs')) is)
-
 -- the first places of two areas, to which the words and coefficients of an accepted sum were written, hold the sum
 pub written-terms : {s : Sum} (ws : List ℕ) (cs : List ℤ) {ws' : List ℕ} {cs' : List ℤ} {count : ℕ} → Accepted variables s → ws' ≡ written (wordsOf s) ws → cs' ≡ written (coefficientsOf s) cs
     → length s ≡ count → firstTerms count ws' cs' ≡ s
@@ -99,31 +88,11 @@ written-terms {s} ws cs accepted words coefficients many =
     ap₂ terms (written-front (wordsOf s) ws words (length-map s _ ∙ many) .0) (written-front (coefficientsOf s) cs coefficients (length-map s _ ∙ many) .0)
     ∙ terms-again s (parts variables s (accepted .isOrdered) .long) (degree-every largestDegree s (accepted .low))
 
-module _ {bytes ws : List ℕ} {cs : List ℤ} {count : ℕ} {ws' : List ℕ} {cs' : List ℤ} (u : Unpacks bytes ws cs count ws' cs') where
-  pub unpacks-terms : firstTerms count ws' cs' ≡ u .sum
-  unpacks-terms = written-terms ws cs (u .accepted) (u .words-are) (u .coefficients-are) (u .many)
-
-  pub unpacks-few : count ≤ mostTerms
-  unpacks-few = omega (arith, u .many, u .accepted .few)
-
 -- the refusal that is handed on
 pub record Handed (bytes : List ℕ) (t : Told) : Type 0 where
   pub place : ℕ
   pub says : t ≡ refused SUM place
   pub fault : AtFault (readWhole variables bytes) place
-
-pub unpack-refused : {bytes : List ℕ} (ws : List ℕ) (cs : List ℤ) {ws' : List ℕ} {cs' : List ℤ} → mostTerms ≤ length ws → mostTerms ≤ length cs
-    → (r : Answer) → OneOf (1 ∷ []) (tagOf the-type r) → outcome (told r) (ws', cs') ≡ unpack bytes ws cs → Handed bytes (told r)
-unfolding heldInto
-unpack-refused ws cs words coefficients (Done n) key e = absurd (omega arith)
-unpack-refused {bytes} ws cs {ws'} {cs'} words coefficients (Refused refusal p) key e =
-    go (readWhole variables bytes) refl (e ∙ has-room bytes ws cs words coefficients)
-  where
-    go : (item : Item Sum) → readWhole variables bytes ≡ item → outcome (refused (number refusal) p) (ws', cs') ≡ heldInto (judged SUM item) ws cs
-        → Handed bytes (refused (number refusal) p)
-    go (got s end) read e = absurd (refused-done (ap (λ o. o .answer) e))
-    go (cut place) read e = record { place = place; says = ap (λ o. o .answer) e; fault = is-cut read }
-    go (bad place) read e = record { place = place; says = ap (λ o. o .answer) e; fault = is-bad read }
 
 -- ---- What `read_count` and `take_whole` answer, one after the other.
 

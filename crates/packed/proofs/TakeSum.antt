@@ -12,7 +12,7 @@ use Rattle.numbers.specs.Item.{Item, Item.got, Item.cut, Item.bad, andThen, pro
 use Rattle.numbers.specs.Number.{readNumber}
 use Rattle.numbers.proofs.Items.{then-got, then-then, provided-yes, provided-no, through, passed, came-from, got-value, carry, Alike, alike-then, alike-same}
 use Rattle.packed.specs.ReadSum.{readTerms, readSum, readWhole}
-use Rattle.packed.specs.Held.{readCount, readRest}
+use Rattle.packed.specs.Inside.Held.{readCount, readRest}
 
 -- ---- The count.
 

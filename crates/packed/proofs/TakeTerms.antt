@@ -23,7 +23,7 @@ use Rattle.numbers.proofs.Codes.{decode-code}
 use Rattle.packed.specs.Judge.{follows}
 use Rattle.packed.specs.ReadSum.{readCoefficient, readExponents, readTerm, readTerms}
 use Rattle.algebra.specs.Held.{wordFor, wordsOf, coefficientsOf}
-use Rattle.packed.specs.Arrays.{Holds}
+use Rattle.packed.specs.Inside.Arrays.{Holds}
 use Rattle.packed.proofs.Good.{weighs-light}
 use Rattle.packed.proofs.Trip.{exponents-fit}
 use Rattle.packed.proofs.Last.{Last, last-none, last-some}

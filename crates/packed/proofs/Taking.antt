@@ -21,7 +21,7 @@ use Rattle.numbers.proofs.Read.{the-type}
 use Rattle.numbers.proofs.Items.{Alike, Alike.both-cut, Alike.both-bad, stopped, answered}
 use Rattle.packed.specs.ReadSum.{readTerms}
 use Rattle.packed.specs.Pack.{goodTerms}
-use Rattle.packed.specs.Arrays.{Holds, takenInto, Copies, Takes}
+use Rattle.packed.specs.Inside.Arrays.{Holds, takenInto, Copies, Takes}
 use Rattle.packed.proofs.Good.{each-valid, good-most, terms-good}
 use Rattle.packed.proofs.TakeSum.{terms-many}
 use Rattle.packed.proofs.Front.{front-length, front-words, front-coefficients}

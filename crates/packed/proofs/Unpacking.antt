@@ -26,10 +26,11 @@ use Rattle.numbers.specs.declared.Read.{Read}
 use Rattle.numbers.specs.declared.Read.the-variants.{Value}
 use Rattle.numbers.proofs.Items.{Alike, Alike.both-cut, Alike.both-bad, alike-then, then-got, provided-yes, provided-no}
 use Rattle.packed.specs.ReadSum.{readTerms, readSum, readWhole}
-use Rattle.packed.specs.Held.{readInto, readCount, readRest}
-use Rattle.packed.specs.Arrays.{Takes}
+use Rattle.packed.specs.Inside.Held.{readInto, readCount, readRest}
+use Rattle.packed.specs.Inside.Arrays.{Takes}
 use Rattle.packed.specs.Whole.{judged, fault}
-use Rattle.packed.specs.Result.{heldInto, wholeInto}
+use Rattle.packed.specs.Result.{heldInto}
+use Rattle.packed.specs.Inside.Arrays.{wholeInto}
 use Rattle.packed.specs.Unpack.{unpack}
 use Rattle.packed.proofs.TakeSum.{sum-split, sum-terms, whole-split, whole-rest, terms-many, rest-many}
 use Rattle.packed.proofs.Taking.{ReadAt, taken-read}

@@ -1,9 +1,8 @@
 pub mod Packed
 pub mod Judge
 pub mod ReadSum
-pub mod Held
 pub mod Whole
 pub mod Result
 pub mod Unpack
 pub mod Pack
-pub mod Arrays
+pub mod Inside

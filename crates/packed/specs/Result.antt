@@ -19,11 +19,6 @@ unfoldable pub heldInto : Judged Sum → List ℕ → List ℤ → Outcome (List
 heldInto (good s) ws cs = outcome (done (length s)) (written (wordsOf s) ws, written (coefficientsOf s) cs)
 heldInto (fails refusal place) ws cs = outcome (refused refusal place) (ws, cs)
 
--- In the caller's own two arrays, which have places for `count` terms. On refusal these places are cleared.
-unfoldable pub wholeInto : ℕ → Judged Sum → List ℕ → List ℤ → Outcome (List ℕ × List ℤ)
-wholeInto count (good s) ws cs = outcome (done (length s)) (written (wordsOf s) ws, written (coefficientsOf s) cs)
-wholeInto count (fails refusal place) ws cs = outcome (refused refusal place) (cleared 0 count ws, cleared (pos 0) count cs)
-
 -- In packed bytes. Done, it returns their number: that many bytes are written into the result area, and its other places stay. On refusal it stays.
 unfoldable pub packedInto : Judged Sum → List ℕ → Outcome (List ℕ)
 packedInto (good s) area = let bytes = packed s in outcome (done (length bytes)) (written bytes area)

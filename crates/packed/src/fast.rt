@@ -11,7 +11,7 @@ ghost use lib.ListN.{length, take};
 ghost use Rattle.algebra.specs.Limits.{variables};
 ghost use Rattle.numbers.specs.Read.{itemOf};
 ghost use Rattle.packed.specs.ReadSum.{readTerms};
-ghost use Rattle.packed.specs.Arrays.{takenInto, Copies, Takes};
+ghost use Rattle.packed.specs.Inside.Arrays.{takenInto, Copies, Takes};
 ghost use Rattle.packed.specs.Pack.{goodTerms};
 
 // No pattern has it.

@@ -20,7 +20,7 @@ ghost use Rattle.numbers.specs.Item.{mapped};
 ghost use Rattle.numbers.specs.Code.{code};
 ghost use Rattle.numbers.specs.Read.{itemOf};
 ghost use Rattle.packed.specs.ReadSum.{readCoefficient, readExponents, readTerms};
-ghost use Rattle.packed.specs.Arrays.{Holds, takenInto};
+ghost use Rattle.packed.specs.Inside.Arrays.{Holds, takenInto};
 
 // A coefficient, judged at once: `weight` is that of the terms before. The value is its code.
 fn read_coefficient(bytes: &[u8], at: usize, weight: u64) -> Read

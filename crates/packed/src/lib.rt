@@ -1,4 +1,5 @@
-// Packed sums: unpacked into two lent areas, packed from them, and read where they stand in other bytes.
+// Packed sums: read item by item, unpacked into two lent areas, and packed from them.
+// Begin with specs/Packed.antt and specs/ReadSum.antt, then with `unpack` and `pack`; the reader is in `reader`, and reads terms for `items` and `fast`.
 use algebra::MOST_TERMS;
 use algebra::Pattern;
 use answers::Answer;
@@ -13,9 +14,10 @@ ghost use Rattle.answers.specs.Refusals.{SUM};
 ghost use Rattle.answers.specs.Answers.{told, outcome};
 ghost use Rattle.numbers.specs.Read.{itemOf};
 ghost use Rattle.packed.specs.ReadSum.{readSum};
-ghost use Rattle.packed.specs.Held.{readCount, readRest, readInto};
+ghost use Rattle.packed.specs.Inside.Held.{readCount, readRest, readInto};
 ghost use Rattle.packed.specs.Whole.{judged, fault};
-ghost use Rattle.packed.specs.Result.{heldInto, wholeInto};
+ghost use Rattle.packed.specs.Result.{heldInto};
+ghost use Rattle.packed.specs.Inside.Arrays.{wholeInto};
 ghost use Rattle.packed.specs.Unpack.{unpack};
 ghost use Rattle.packed.specs.Pack.{pack};
 

@@ -16,7 +16,7 @@ use Rattle.algebra.specs.Collect.{gather, spread}
 use Rattle.algebra.specs.Arithmetic.{pairs}
 use Rattle.algebra.specs.Value.{coefficientIn, coefficient}
 use Rattle.algebra.specs.Word.{terms, termsBy}
-use Rattle.algebra.specs.Rank.{wordAt, wordsAt}
+use Rattle.algebra.specs.Inside.Rank.{wordAt, wordsAt}
 use Rattle.algebra.specs.Held.{wordFor, firstTerms}
 use Rattle.algebra.proofs.Sums.Equal.{coefficient-additive, gather-equal}
 use Rattle.algebra.proofs.Sums.Occurs.{spread-gather}

@@ -11,7 +11,7 @@ use Rattle.algebra.specs.Sum.{Term, Sum, degreeOf}
 use Rattle.algebra.specs.Collect.{gather, spread}
 use Rattle.algebra.specs.Arithmetic.{row, pairs}
 use Rattle.algebra.specs.Word.{terms}
-use Rattle.algebra.specs.Rank.{wordAt, wordsAt}
+use Rattle.algebra.specs.Inside.Rank.{wordAt, wordsAt}
 use Rattle.algebra.specs.Held.{firstTerms}
 use Rattle.algebra.proofs.Patterns.Laws.{degree-times}
 use Rattle.algebra.proofs.Sums.Ordered.{gather-fixed}

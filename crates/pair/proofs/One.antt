@@ -9,7 +9,7 @@ use Rattle.algebra.specs.Pattern.{emptyPattern}
 use Rattle.algebra.specs.Sum.{Term, term, Sum, degreeOf}
 use Rattle.algebra.specs.Arithmetic.{unit, row, pairs}
 use Rattle.algebra.specs.Word.{terms}
-use Rattle.algebra.specs.Rank.{wordsAt}
+use Rattle.algebra.specs.Inside.Rank.{wordsAt}
 use Rattle.algebra.specs.Held.{wordsOf}
 use Rattle.algebra.proofs.Numbers.Whole.{*ℤ-oner}
 use Rattle.algebra.proofs.Patterns.Laws.{times-comm, empty-times, empty-degree, empty-length}

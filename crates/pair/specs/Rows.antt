@@ -11,7 +11,7 @@ use Rattle.algebra.specs.Pattern.{exponent, without}
 use Rattle.algebra.specs.Sum.{Term, term, Sum, degreeOf, weight}
 use Rattle.algebra.specs.Arithmetic.{pairs}
 use Rattle.algebra.specs.Word.{terms}
-use Rattle.algebra.specs.Rank.{wordsAt}
+use Rattle.algebra.specs.Inside.Rank.{wordsAt}
 use Rattle.algebra.specs.Held.{firstTerms}
 use Rattle.sums.specs.Held.{Held}
 use Rattle.sums.specs.Rows.{CanAdd}

@@ -1,5 +1,6 @@
 // One pair of a substitution list: a sum is put for a variable. `fp` and `fc` hold the sum into which it is put, `sp` and `sc` the sum that is put for the
 // variable v.
+// Begin with specs/Asked.antt and specs/Formed.antt, then with `measure` (degree and weight) and `putting::put`.
 use algebra::Pattern;
 ghost use mathlib.Core.Path.{_≡_};
 ghost use Rattle.algebra.specs.Sum.{degreeOf, weight};

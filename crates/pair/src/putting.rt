@@ -13,7 +13,7 @@ ghost use Rattle.algebra.specs.Limits.{variables, mostTerms};
 ghost use Rattle.algebra.specs.Arithmetic.{pairs};
 ghost use Rattle.algebra.specs.Substitute.{largestPower};
 ghost use Rattle.algebra.specs.Word.{terms};
-ghost use Rattle.algebra.specs.Rank.{wordsAt};
+ghost use Rattle.algebra.specs.Inside.Rank.{wordsAt};
 ghost use Rattle.algebra.specs.Held.{firstTerms};
 ghost use Rattle.sums.specs.Held.{Held};
 ghost use Rattle.sums.specs.Asked.{Room, Factors};

@@ -1,4 +1,5 @@
 // Reads cases from standard input, one on each line, runs each on the library, and writes a line of what came back.
+// Begin with docs/REPLAY.md, which has the lines, then with `main` and `cases`.
 use libc::STDIN_FILENO;
 use libc::STDOUT_FILENO;
 ghost use Prim.Native.Nat.{_+_, _*_, _≤_};

@@ -19,9 +19,9 @@ use Rattle.weights.specs.Capped.{capped}
 use Rattle.packed.proofs.Writing.{sets-append}
 use Rattle.router.specs.Bytes.{numberBytes, signedBytes}
 use Rattle.router.specs.Readings.{numbersOf, beforeNegative, measured}
-use Rattle.router.specs.Parts.{Keeps}
+use Rattle.router.specs.Inside.Parts.{Keeps}
 use Rattle.router.specs.Estimate.{judgeRange, answerBytes, answerOf}
-use Rattle.router.specs.Found.{foundOf}
+use Rattle.router.specs.Inside.Found.{foundOf}
 use Rattle.router.specs.declared.Found.{Found}
 use Rattle.router.specs.declared.Found.the-variants.{Within, Beyond}
 use Rattle.router.proofs.Found.{the-type}

@@ -14,7 +14,7 @@ use Rattle.algebra.proofs.Numbers.Whole.{*ℤ-assoc, *ℤ-oner}
 use Rattle.answers.proofs.Signed.{fits-abs}
 use Rattle.weights.specs.Capped.{capped}
 use Rattle.weights.proofs.Weighing.{capped-times, capped-times-right}
-use Rattle.router.specs.Parts.{Holds}
+use Rattle.router.specs.Inside.Parts.{Holds}
 
 -- numbers themselves, however large the first is
 pub themselves : {m : ℕ} {n : ℤ} → natAbs n ≤ m → Holds m n m n

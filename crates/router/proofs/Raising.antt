@@ -14,7 +14,7 @@ use Rattle.numbers.proofs.Signs.{held}
 use Rattle.algebra.specs.Limits.{variables}
 use Rattle.algebra.specs.Margin.{unsigned, raisedBy}
 use Rattle.algebra.proofs.Sums.Margins.{raised-length, raised-at}
-use Rattle.router.specs.Parts.{Covers}
+use Rattle.router.specs.Inside.Parts.{Covers}
 use Rattle.router.specs.Readings.{beforeNegative}
 use Rattle.router.proofs.Tolerances.{none-negative}
 

@@ -21,7 +21,7 @@ use Rattle.algebra.proofs.Patterns.Held.{held-append}
 use Rattle.algebra.proofs.Sums.Margins.{size-append, term-abs}
 use Rattle.algebra.proofs.Sums.Values.{append-value, cons-value}
 use Rattle.answers.proofs.Signed.{fits-abs}
-use Rattle.router.specs.Parts.{Holds, Sound, Keeps, Allowed, Added}
+use Rattle.router.specs.Inside.Parts.{Holds, Sound, Keeps, Allowed, Added}
 
 -- ---- A term more.
 

@@ -10,8 +10,8 @@ use lib.ListN.{length, getD, set, length-set}
 use lib.Seq.{getD-set-same, getD-set-other}
 use Rattle.algebra.specs.Limits.{variables}
 use Rattle.algebra.specs.Pattern.{Pattern, exponent}
-use Rattle.router.specs.Parts.{Holds, Times}
-use Rattle.router.specs.Powers.{stride, Stands, Row, RowFrom, Rows, Under}
+use Rattle.router.specs.Inside.Parts.{Holds, Times}
+use Rattle.router.specs.Inside.Powers.{stride, Stands, Row, RowFrom, Rows, Under}
 use Rattle.router.proofs.Multiplying.{themselves, next-raised, next-power, no-power}
 
 -- ---- One row.

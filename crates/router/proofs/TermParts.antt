@@ -14,7 +14,7 @@ use Rattle.algebra.specs.Pattern.{Pattern, exponent}
 use Rattle.algebra.specs.Value.{patternValue}
 use Rattle.algebra.specs.Margin.{patternSize}
 use Rattle.algebra.proofs.Numbers.Whole.{*ℤ-assoc, *ℤ-oner}
-use Rattle.router.specs.Parts.{Covers, Holds, Sound}
+use Rattle.router.specs.Inside.Parts.{Covers, Holds, Sound}
 use Rattle.router.proofs.Multiplying.{themselves, no-times}
 
 -- m and n are the products so far, however large

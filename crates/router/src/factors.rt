@@ -3,7 +3,7 @@
 use algebra::LARGEST_WEIGHT;
 ghost use Prim.Native.Nat.{_≤_};
 ghost use lib.IntN.{natAbs};
-ghost use Rattle.router.specs.Parts.{Sound, Times, TimesPower};
+ghost use Rattle.router.specs.Inside.Parts.{Sound, Times, TimesPower};
 
 pub struct Both {
     pub most: u64,

@@ -1,4 +1,5 @@
 // What the router asks: the value of a packed sum at its readings, and a bound on how far the true value is from it.
+// Begin with specs/Readings.antt and specs/Estimate.antt, then with `estimate`.
 use algebra::LARGEST_WEIGHT;
 use algebra::MOST_TERMS;
 use algebra::Pattern;
@@ -15,7 +16,7 @@ ghost use Rattle.answers.specs.Areas.{written};
 ghost use Rattle.answers.specs.Host.{hosted};
 ghost use Rattle.router.specs.Readings.{beforeNegative, measured};
 ghost use Rattle.router.specs.Estimate.{judgeRange, judgeTerms, answerBytes, answerOf, answerInto, estimate, hostUnit};
-ghost use Rattle.router.specs.Found.{foundOf};
+ghost use Rattle.router.specs.Inside.Found.{foundOf};
 
 mod bytes;
 mod factors;

@@ -7,8 +7,8 @@ ghost use Prim.Native.Nat.{_+_, _≤_, _<_};
 ghost use lib.IntN.{natAbs};
 ghost use lib.ListN.{length};
 ghost use Rattle.algebra.specs.Word.{exponents};
-ghost use Rattle.router.specs.Parts.{Covers};
-ghost use Rattle.router.specs.Powers.{stride, RowFrom, Rows, Under};
+ghost use Rattle.router.specs.Inside.Parts.{Covers};
+ghost use Rattle.router.specs.Inside.Powers.{stride, RowFrom, Rows, Under};
 
 // The powers of one reading from 1 up to `top`, after a place of both tables.
 fn fill_row(

@@ -12,8 +12,8 @@ ghost use lib.ListN.{length};
 ghost use Rattle.algebra.specs.Value.{patternValue};
 ghost use Rattle.algebra.specs.Margin.{patternSize};
 ghost use Rattle.algebra.specs.Word.{exponents, terms};
-ghost use Rattle.router.specs.Parts.{Covers, Holds, Sound, Keeps, Allowed, Added};
-ghost use Rattle.router.specs.Powers.{Rows, RowsFor, Under, Uses};
+ghost use Rattle.router.specs.Inside.Parts.{Covers, Holds, Sound, Keeps, Allowed, Added};
+ghost use Rattle.router.specs.Inside.Powers.{Rows, RowsFor, Under, Uses};
 
 // So many terms are few.
 const FEW_TERMS: usize = 16;

@@ -9,7 +9,7 @@ use lib.Seq.{drop-at}
 use borrow.Rule.Slice.PartMut.{midOf, putMid}
 use Rattle.algebra.specs.Sum.{Term, Sum}
 use Rattle.algebra.specs.Word.{EachValid}
-use Rattle.algebra.specs.Rank.{rankOf, wordAt, wordsAt}
+use Rattle.algebra.specs.Inside.Rank.{rankOf, wordAt, wordsAt}
 use Rattle.algebra.specs.Held.{wordFor, wordsOf, coefficientsOf}
 use Rattle.algebra.proofs.Patterns.Rank.{words-again}
 use Rattle.answers.specs.Areas.{written, cleared}

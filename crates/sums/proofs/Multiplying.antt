@@ -14,7 +14,7 @@ use Rattle.algebra.specs.Sum.{Term, Sum, inOrder, degreeOf, weight}
 use Rattle.algebra.specs.Collect.{insert, gather, dropZeros, spread}
 use Rattle.algebra.specs.Arithmetic.{row, pairs, _⊗_, productSpread}
 use Rattle.algebra.specs.Word.{terms, termsBy}
-use Rattle.algebra.specs.Rank.{wordAt, wordsAt}
+use Rattle.algebra.specs.Inside.Rank.{wordAt, wordsAt}
 use Rattle.algebra.specs.Held.{firstTerms}
 use Rattle.algebra.proofs.Patterns.Laws.{times-length, times-degree}
 use Rattle.algebra.proofs.Sums.Every.{Every, collect-every, row-every, pairs-every, Long, UpTo, degree-every, every-degree}

@@ -10,7 +10,7 @@ use mir.Val.{SFits}
 use Rattle.algebra.specs.Limits.{largestDegree}
 use Rattle.algebra.specs.Pattern.{times, degree}
 use Rattle.algebra.specs.Word.{word, exponents, Valid, EachValid}
-use Rattle.algebra.specs.Rank.{rankOf, wordAt, wordsAt}
+use Rattle.algebra.specs.Inside.Rank.{rankOf, wordAt, wordsAt}
 use Rattle.algebra.proofs.Patterns.Rank.{rank-of-word, ranks-fit, rank-product, words-at, words-set, words-again}
 use Rattle.answers.specs.Areas.{written}
 use Rattle.answers.proofs.Writes.{written-front}

@@ -11,7 +11,7 @@ use lib.Seq.{length-take-le, getD-take}
 use Rattle.algebra.specs.Pattern.{Pattern, order}
 use Rattle.algebra.specs.Sum.{isBefore}
 use Rattle.algebra.specs.Word.{exponents, Valid, EachValid}
-use Rattle.algebra.specs.Rank.{wordAt, wordsAt}
+use Rattle.algebra.specs.Inside.Rank.{wordAt, wordsAt}
 use Rattle.algebra.proofs.Numbers.Compare.{Says}
 use Rattle.algebra.proofs.Patterns.Rank.{words-at, ranks-order}
 

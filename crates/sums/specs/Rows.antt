@@ -12,7 +12,7 @@ use Rattle.algebra.specs.Sum.{term, Sum, degreeOf, weight}
 use Rattle.algebra.specs.Collect.{gather}
 use Rattle.algebra.specs.Arithmetic.{row}
 use Rattle.algebra.specs.Word.{exponents, terms, Valid}
-use Rattle.algebra.specs.Rank.{rankOf}
+use Rattle.algebra.specs.Inside.Rank.{rankOf}
 use Rattle.algebra.specs.Held.{wordsOf, coefficientsOf, firstTerms}
 use Rattle.answers.specs.Areas.{written}
 use Rattle.sums.specs.Held.{Held}

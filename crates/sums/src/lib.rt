@@ -1,5 +1,6 @@
 // Sums in slices: the word of each pattern in one, the coefficients in the other. `sp` and `sc` hold the sum s, `tp` and `tc` the sum t; what is
 // formed is written to the first places of two areas, patterns and coefficients.
+// Begin with specs/Asked.antt and specs/Formed.antt, then with `product` and `power`; `rows` merges a row of products into a running sum.
 use algebra::MOST_TERMS;
 use algebra::Pattern;
 use answers::areas;

@@ -17,7 +17,7 @@ ghost use Rattle.algebra.specs.Collect.{dropZeros};
 ghost use Rattle.algebra.specs.Arithmetic.{pairs};
 ghost use Rattle.algebra.specs.Standing.{standing};
 ghost use Rattle.algebra.specs.Word.{exponents, terms, Valid, EachValid};
-ghost use Rattle.algebra.specs.Rank.{rankOf, wordAt, wordsAt};
+ghost use Rattle.algebra.specs.Inside.Rank.{rankOf, wordAt, wordsAt};
 ghost use Rattle.algebra.specs.Held.{firstTerms};
 ghost use Rattle.answers.specs.Areas.{written, cleared};
 ghost use Rattle.sums.specs.Held.{Held};

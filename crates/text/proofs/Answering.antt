@@ -20,7 +20,7 @@ use Rattle.text.specs.Limits.{longestText, tablePlaces}
 use Rattle.text.specs.Tree.{Tree, size, nodesOf}
 use Rattle.text.specs.Reader.{span, readWhole}
 use Rattle.text.specs.Text.{judgeText, tableInto, readFormula}
-use Rattle.text.specs.Laid.{Part}
+use Rattle.text.specs.Inside.Laid.{Part}
 use Rattle.text.proofs.Trees.{nodes-length}
 
 -- ---- The checks.

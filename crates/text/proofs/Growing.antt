@@ -12,7 +12,7 @@ use Rattle.nodes.specs.Node.{Kind, Kind.integer, Kind.variable, Kind.sum, Kind.
 use Rattle.text.specs.Signs.{minusSign}
 use Rattle.text.specs.Tree.{Tree, Tree.number, Tree.letter, Tree.plus, Tree.times, Tree.raised, Tree.minus, size, own, nodesOf}
 use Rattle.text.specs.Reader.{span, byteAt, signed, afterMinus}
-use Rattle.text.specs.Laid.{putNode, Part, signedCount, signedTable}
+use Rattle.text.specs.Inside.Laid.{putNode, Part, signedCount, signedTable}
 use Rattle.text.proofs.Byte.{decide, inside}
 use Rattle.text.proofs.Trees.{nodes-length}
 use Rattle.text.proofs.Nodes.{lays-one, lays-append, laid-more}

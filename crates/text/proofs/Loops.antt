@@ -9,7 +9,7 @@ use Rattle.answers.specs.Judge.{Judged}
 use Rattle.nodes.specs.Node.{Kind.sum, Kind.product}
 use Rattle.text.specs.Tree.{Tree, Tree.plus, Tree.times}
 use Rattle.text.specs.Reader.{Span, span, byteAt, readFactor, isTimes, readTerm, isSign, signed, afterMinus, readSum, inBrackets}
-use Rattle.text.specs.Laid.{putNode, signedCount, signedTable, Part}
+use Rattle.text.specs.Inside.Laid.{putNode, signedCount, signedTable, Part}
 use Rattle.text.proofs.Growing.{sums, products, joined-part, first-part, next-part, sign-grown}
 use Rattle.text.proofs.Branches.{term-is, sum-is}
 use Rattle.text.proofs.Operands.{Operands, factors, terms, Chain, chain-starts, chain-again}

@@ -11,7 +11,7 @@ use Rattle.nodes.specs.Node.{Kind, numbersOf, tableOf}
 use Rattle.packed.proofs.Writing.{sets-append}
 use Rattle.formula.proofs.Passing.{table-length}
 use Rattle.text.specs.Tree.{Tree, size, nodesOf}
-use Rattle.text.specs.Laid.{putNode, Laid}
+use Rattle.text.specs.Inside.Laid.{putNode, Laid}
 use Rattle.text.proofs.Table.{put-within}
 use Rattle.text.proofs.Trees.{nodes-length}
 

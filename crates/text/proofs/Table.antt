@@ -14,7 +14,7 @@ use Rattle.algebra.specs.Limits.{largestDegree, mostNodes}
 use Rattle.algebra.proofs.Numbers.Test.{and}
 use Rattle.nodes.specs.declared.Kind as declared
 use Rattle.nodes.specs.Node.{Kind, numbersOf, kindOf}
-use Rattle.text.specs.Laid.{putNode}
+use Rattle.text.specs.Inside.Laid.{putNode}
 
 module _ (table : List ℤ) (n : ℕ) (k : Kind) where
   pub put-within : n < mostNodes → putNode table n k ≡ sets table (3 * n) (numbersOf k)

@@ -10,7 +10,7 @@ use Rattle.text.specs.declared.readers.Read.{Read}
 use Rattle.text.specs.declared.readers.Read.the-variants.{At, Fault}
 use Rattle.text.specs.Tree.{Tree}
 use Rattle.text.specs.Reader.{Span, span}
-use Rattle.text.specs.Laid.{Part, Reads}
+use Rattle.text.specs.Inside.Laid.{Part, Reads}
 use Rattle.text.proofs.Trees.{size-some}
 
 -- a good answer: the tree that was read

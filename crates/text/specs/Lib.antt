@@ -5,4 +5,4 @@ pub mod Tree
 pub mod Grammar
 pub mod Reader
 pub mod Text
-pub mod Laid
+pub mod Inside

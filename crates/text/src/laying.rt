@@ -10,7 +10,7 @@ ghost use lib.Seq.{sets};
 ghost use Rattle.algebra.specs.Limits.{mostNodes};
 ghost use Rattle.nodes.specs.Node.{isNode, kindOf};
 ghost use Rattle.text.specs.Limits.{longestText};
-ghost use Rattle.text.specs.Laid.{putNode, signedCount, signedTable};
+ghost use Rattle.text.specs.Inside.Laid.{putNode, signedCount, signedTable};
 
 fn write(table: &mut [i64; TABLE_PLACES], n: usize, kind: i64, first: i64, second: i64)
     requires { ⌜ n < mostNodes ⌝ }

@@ -1,4 +1,5 @@
 // Typed formulas, read into tables.
+// Begin with specs/Grammar.antt and specs/Text.antt, then with `read_formula`; the four readers that call each other are in `readers`.
 use algebra::MOST_NODES;
 use answers::Answer;
 use answers::Refusal;

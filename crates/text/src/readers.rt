@@ -8,7 +8,7 @@ use algebra::LARGEST_WEIGHT;
 use algebra::Pattern;
 use nodes::Kind;
 ghost use Rattle.text.specs.Reader.{readAtom, readFactor, readTerm, readSum, inBrackets};
-ghost use Rattle.text.specs.Laid.{Ready, Reads};
+ghost use Rattle.text.specs.Inside.Laid.{Ready, Reads};
 
 // What may be typed: a number up to the largest weight of a sum, an exponent up to the largest degree.
 const LARGEST_NUMBER: u64 = LARGEST_WEIGHT;

@@ -1,5 +1,6 @@
 // Degrees and weights as the code keeps them. A weight is exact up to 2^62, and every weight above that is told by 2^62 + 1: so one that is far too large is
 // found without being formed.
+// Begin with specs/Capped.antt, then with `sum`, `product` and `power`.
 use algebra::LARGEST_WEIGHT;
 ghost use mathlib.Core.Path.{_≡_};
 ghost use Prim.Native.Nat.{_+_, _*_, _^_, _<_, max};

@@ -7,7 +7,7 @@ use lib.Bits.{bitOr, or-lt, or-block, or-add-and, and-le-l, and-le-r}
 use lib.ListN.{length}
 use Rattle.algebra.specs.Limits.{variables}
 use Rattle.algebra.specs.Pattern.{Pattern, exponent}
-use Rattle.algebra.specs.Either.{either}
+use Rattle.algebra.specs.Inside.Either.{either}
 use Rattle.algebra.specs.Word.{fieldSize, wordOf, word, exponents}
 use Rattle.algebra.proofs.Patterns.Fields.{Below, Below.none, Below.more, fields-below, word-lt, place-bits}
 use Rattle.algebra.proofs.Patterns.Word.{exponents-length, word-exponents, exponents-bytes}

@@ -10,7 +10,7 @@ use lib.ListN.{getD, set}
 use Rattle.algebra.specs.Limits.{largestDegree}
 use Rattle.algebra.specs.Pattern.{degree, times, thenBy, order}
 use Rattle.algebra.specs.Word.{word, exponents, Valid, EachValid}
-use Rattle.algebra.specs.Rank.{rankOf, wordAt, wordsAt}
+use Rattle.algebra.specs.Inside.Rank.{rankOf, wordAt, wordsAt}
 use Rattle.algebra.proofs.Numbers.Compare.{Says, compare-says, compare-is}
 use Rattle.algebra.proofs.Patterns.Word.{valid-degree, valid-most, quotient-small, word-product, product-valid, word-order}
 

@@ -3,7 +3,7 @@ use mathlib.Core.Path.{_≡_, sym}
 use native.Mathlib.Omega.{arith}
 use Rattle.numbers.specs.Item.{Item.got}
 use Rattle.numbers.proofs.Items.{number-answered}
-use Rattle.packed.specs.Held.{readCount}
+use Rattle.packed.specs.Inside.Held.{readCount}
 use Rattle.packed.proofs.TakeSum.{count-few}
 use Rattle.packed.proofs.Results.{count-refused, rest-refused, rest-taken}
 use Rattle.change.proofs.Sloped.{Refuses.no-room, refuses-slope}

@@ -6,7 +6,7 @@ use lib.ListN.{length}
 use Rattle.algebra.specs.Limits.{variables}
 use Rattle.algebra.specs.Sum.{Sum}
 use Rattle.answers.specs.Areas.{written}
-use Rattle.listing.specs.Bytes.{Packs}
+use Rattle.listing.specs.Inside.Bytes.{Packs}
 use Rattle.listing.specs.Lines.{sumLines}
 use Rattle.listing.proofs.Widths.{sum-width}
 use Rattle.listing.proofs.Answered.{Terms, unpacked, never-refused}

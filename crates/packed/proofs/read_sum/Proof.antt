@@ -8,7 +8,7 @@ use Rattle.algebra.specs.Limits.{variables, mostTerms}
 use Rattle.numbers.specs.Item.{Item.got}
 use Rattle.numbers.proofs.Items.{number-stopped, number-answered, IsValue, is-value}
 use Rattle.packed.specs.ReadSum.{readTerms}
-use Rattle.packed.specs.Held.{readCount}
+use Rattle.packed.specs.Inside.Held.{readCount}
 use Rattle.packed.proofs.TakeSum.{count-few}
 use Rattle.packed.proofs.Taking.{ReadAt, taken-stopped, taken-read}
 use Rattle.packed.proofs.Unpacking.{into-stops, terms-room, count-faulty, terms-faulty, into-areas}

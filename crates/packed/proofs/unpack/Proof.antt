@@ -4,7 +4,7 @@ use native.Mathlib.Omega.{arith}
 use Rattle.answers.specs.Answers.{Told, outcome}
 use Rattle.numbers.specs.Item.{Item.got}
 use Rattle.numbers.proofs.Items.{number-stopped, number-answered}
-use Rattle.packed.specs.Held.{readCount}
+use Rattle.packed.specs.Inside.Held.{readCount}
 use Rattle.packed.proofs.TakeSum.{count-few}
 use Rattle.packed.proofs.Unpacking.{few-words, few-coefficients, unpack-stops, unpack-rest}
 use borrow.Author.Needs.{needs}

@@ -7,7 +7,7 @@ use lib.ListN.{replicate}
 use Rattle.algebra.specs.Limits.{mostTerms}
 use Rattle.numbers.specs.Item.{Item.got}
 use Rattle.numbers.proofs.Items.{number-answered}
-use Rattle.packed.specs.Held.{readCount}
+use Rattle.packed.specs.Inside.Held.{readCount}
 use Rattle.packed.proofs.TakeSum.{count-few}
 use Rattle.packed.proofs.Results.{Whole, count-refused, rest-refused, rest-taken}
 use Rattle.router.proofs.Estimating.{Refuses.no-room, refuses-estimate}

@@ -6,7 +6,7 @@ use Rattle.algebra.specs.Word.{terms}
 use Rattle.answers.specs.Answers.{Told.done, outcome}
 use Rattle.answers.specs.Areas.{written}
 use Rattle.router.specs.Estimate.{answerBytes, answerOf, judgeTerms}
-use Rattle.router.specs.Found.{foundOf}
+use Rattle.router.specs.Inside.Found.{foundOf}
 use Rattle.router.proofs.Estimating.{Long, terms-not-long, terms-negative, terms-given, range-margin, refused-leaves, done-leaves}
 use Rattle.router.proofs.Answering.{stops, passes, are-given, not-within}
 use borrow.Author.Needs.{needs}

@@ -8,7 +8,7 @@ use lib.ListN.{length, take, length-map}
 use Rattle.algebra.specs.Collect.{gather}
 use Rattle.algebra.specs.Arithmetic.{pairs}
 use Rattle.algebra.specs.Word.{terms}
-use Rattle.algebra.specs.Rank.{wordAt, wordsAt}
+use Rattle.algebra.specs.Inside.Rank.{wordAt, wordsAt}
 use Rattle.sums.specs.Formed.{formedInto}
 use Rattle.sums.proofs.Holding.{map-take, each-valid}
 use Rattle.sums.proofs.Fronts.{Placed, placed-inside, placed-held}

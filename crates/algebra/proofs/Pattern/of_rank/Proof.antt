@@ -5,7 +5,7 @@ use native.Mathlib.Omega.{arith}
 use native.Mathlib.Nat.{mod-lt}
 use lib.Pow.{pow-pos, shr-lt}
 use borrow.Author.Needs.{needs}
-use Rattle.algebra.specs.Rank.{wordAt}
+use Rattle.algebra.specs.Inside.Rank.{wordAt}
 use Rattle.algebra.proofs.Pattern.of_rank.Statement.{statement}
 use Rattle.algebra.proofs.Pattern.of_rank.Tie as tie
 

@@ -1,6 +1,6 @@
 -- `Pattern::rank` meets its contract: a valid word's degree is its remainder by 255, and the quotient is below 2^56.
 use native.Mathlib.Omega.{arith}
-use Rattle.algebra.specs.Rank.{rankOf}
+use Rattle.algebra.specs.Inside.Rank.{rankOf}
 use Rattle.algebra.proofs.Patterns.Word.{valid-degree, quotient-small}
 use Rattle.algebra.proofs.Pattern.rank.Statement.{statement}
 use Rattle.algebra.proofs.Pattern.rank.Tie as tie

@@ -3,7 +3,7 @@ use mathlib.Core.Path.{_≡_, sym, ap}
 use borrow.Author.Needs.{needs}
 use Rattle.numbers.specs.Read.{itemOf}
 use Rattle.numbers.specs.declared.Read.{Read}
-use Rattle.change.specs.Kept.{itemFault}
+use Rattle.change.specs.Inside.Kept.{itemFault}
 use Rattle.change.proofs.lists.faulty.Statement.{statement}
 use Rattle.change.proofs.lists.faulty.Tie as tie
 

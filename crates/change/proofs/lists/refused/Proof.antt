@@ -4,7 +4,7 @@ use Prim.Native.Nat.{ℕ}
 use borrow.Author.Needs.{needs}
 use Rattle.answers.specs.Answers.{Told.refused}
 use Rattle.change.specs.Pairs.{refusalOf}
-use Rattle.change.specs.Kept.{faultOf, listedOf, listFault}
+use Rattle.change.specs.Inside.Kept.{faultOf, listedOf, listFault}
 use Rattle.change.specs.declared.lists.Fault.{Fault}
 use Rattle.change.specs.declared.lists.Listed.{Listed}
 use Rattle.change.specs.declared.lists.Listed.the-variants.{Faulty}

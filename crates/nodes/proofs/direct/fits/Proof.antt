@@ -6,7 +6,7 @@ use borrow.Author.Tests.{le-leb}
 use lib.Dec.{leb}
 use Rattle.algebra.specs.Limits.{mostTerms}
 use Rattle.algebra.specs.Arithmetic.{sumSpread}
-use Rattle.nodes.specs.Direct.{sumIn}
+use Rattle.nodes.specs.Inside.Direct.{sumIn}
 use Rattle.nodes.proofs.Straight.{spread-below}
 use Rattle.nodes.proofs.direct.fits.Statement.{statement}
 use Rattle.nodes.proofs.direct.fits.Tie as tie

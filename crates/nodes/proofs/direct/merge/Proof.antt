@@ -13,7 +13,7 @@ use Rattle.algebra.specs.Limits.{mostTerms}
 use Rattle.algebra.specs.Sum.{isZero}
 use Rattle.algebra.specs.Standing.{standing}
 use Rattle.algebra.specs.Word.{exponents}
-use Rattle.nodes.specs.Direct.{nextStands}
+use Rattle.nodes.specs.Inside.Direct.{nextStands}
 use Rattle.algebra.proofs.Numbers.Signed.{zero-bits, nonzero-bits}
 use Rattle.nodes.proofs.Merges.{Merging, begin, first-valid, second-valid, may-first, steps-first, may-second, steps-second, both-fit, steps-none, may-both, steps-both, finally}
 use Rattle.nodes.proofs.direct.merge.Statement.{statement}

@@ -5,7 +5,7 @@ use native.Mathlib.Omega.{arith}
 use mir.Syntax.{w64}
 use mir.ValLaws.{toZ-ofZ}
 use Rattle.algebra.specs.Sum.{Sum}
-use Rattle.nodes.specs.Work.{sumsAt}
+use Rattle.nodes.specs.Inside.Work.{sumsAt}
 use Rattle.nodes.proofs.Formally.{variable-small}
 use Rattle.nodes.proofs.Working.{lent-room, ready-as, formed-as, integer-formed, variable-formed, formed-at, renamed}
 use borrow.Author.Needs.{needs}

@@ -6,7 +6,7 @@ use borrow.Author.Needs.{needs}
 use lib.ListN.{getD}
 use Rattle.algebra.specs.Sum.{Sum}
 use Rattle.sums.proofs.Fronts.{Placed, placed-held}
-use Rattle.nodes.specs.Work.{sumAt, sumsAt}
+use Rattle.nodes.specs.Inside.Work.{sumAt, sumsAt}
 use Rattle.nodes.proofs.Formally.{base-child}
 use Rattle.nodes.proofs.Working.{lent-room, operand, operand-is, operand-full, base-low, base-light, base-formed, formed-at}
 use Rattle.nodes.proofs.work.power_by.Statement.{statement}

@@ -6,7 +6,7 @@ use borrow.Author.Needs.{needs}
 use lib.ListN.{getD}
 use Rattle.algebra.specs.Sum.{Sum}
 use Rattle.sums.proofs.Fronts.{Placed, placed-inside, placed-held}
-use Rattle.nodes.specs.Work.{sumAt, sumsAt}
+use Rattle.nodes.specs.Inside.Work.{sumAt, sumsAt}
 use Rattle.nodes.proofs.Formally.{two-children}
 use Rattle.nodes.proofs.Working.{operand, operand-is, factors-low, factors-light, factors-formed, lent-room, formed-at}
 use Rattle.nodes.proofs.work.product_by.Statement.{statement}

@@ -6,7 +6,7 @@ use native.Mathlib.Omega.{arith}
 use native.Mathlib.Nat.{sub-zero}
 use lib.ListN.{length, take}
 use borrow.Author.Needs.{needs}
-use Rattle.algebra.specs.Rank.{wordsAt}
+use Rattle.algebra.specs.Inside.Rank.{wordsAt}
 use Rattle.sums.proofs.Holding.{each-valid}
 use Rattle.sums.proofs.Ranking.{ranked-words}
 use Rattle.pair.proofs.AddingRows.{Taken, part-inside, none-added, can-add, rows-added}

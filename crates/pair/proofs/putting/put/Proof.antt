@@ -7,7 +7,7 @@ use borrow.Author.Needs.{needs}
 use lib.IntN.{pos}
 use lib.ListN.{length-map, replicate}
 use Rattle.algebra.specs.Limits.{mostTerms}
-use Rattle.algebra.specs.Rank.{wordAt, wordsAt}
+use Rattle.algebra.specs.Inside.Rank.{wordAt, wordsAt}
 use Rattle.sums.specs.Formed.{formedInto}
 use Rattle.sums.proofs.Holding.{map-take}
 use Rattle.sums.proofs.Fronts.{placed-inside, placed-held, front-few}

@@ -8,7 +8,7 @@ use lib.ListN.{length, getD, length-map}
 use mir.Syntax.{w64}
 use mir.ValLaws.{toZ-ofZ}
 use Rattle.algebra.specs.Word.{Valid}
-use Rattle.algebra.specs.Rank.{wordAt, wordsAt}
+use Rattle.algebra.specs.Inside.Rank.{wordAt, wordsAt}
 use Rattle.algebra.proofs.Patterns.Word.{without-valid}
 use Rattle.algebra.proofs.Patterns.Rank.{word-at-rank, words-set}
 use Rattle.sums.proofs.Holding.{as-many}

@@ -7,7 +7,7 @@ use lib.IntN.{natAbs, _*ℤ_, pow}
 use mir.Syntax.{w64}
 use mir.Val.{ofZ, toZ}
 use mir.ValLaws.{toZ-ofZ}
-use Rattle.router.specs.Parts.{TimesPower}
+use Rattle.router.specs.Inside.Parts.{TimesPower}
 use Rattle.router.proofs.Multiplying.{themselves, no-times, times-more}
 use Rattle.router.proofs.factors.times_power.Statement.{statement}
 use Rattle.router.proofs.factors.times_power.Tie as tie

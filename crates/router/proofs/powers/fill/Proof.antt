@@ -7,7 +7,7 @@ use mir.Syntax.{w64}
 use mir.ValLaws.{toZ-ofZ}
 use Rattle.algebra.specs.Limits.{variables}
 use Rattle.algebra.specs.Word.{exponents}
-use Rattle.router.specs.Powers.{stride}
+use Rattle.router.specs.Inside.Powers.{stride}
 use Rattle.router.proofs.Tabling.{Filled, none-filled, inside-upper, inside-powers, row-filled, all-filled}
 use Rattle.router.proofs.powers.fill.Statement.{statement}
 use Rattle.router.proofs.powers.fill.Tie as tie

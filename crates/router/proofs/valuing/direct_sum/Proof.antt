@@ -9,7 +9,7 @@ use mir.ValLaws.{toZ-ofZ}
 use Rattle.algebra.specs.Value.{patternValue}
 use Rattle.algebra.specs.Margin.{patternSize}
 use Rattle.algebra.specs.Word.{exponents}
-use Rattle.router.specs.Parts.{Holds, Added}
+use Rattle.router.specs.Inside.Parts.{Holds, Added}
 use Rattle.router.proofs.SumParts.{Adding, start, again, beyond, ended}
 use Rattle.router.proofs.valuing.direct_sum.Statement.{statement}
 use Rattle.router.proofs.valuing.direct_sum.Tie as tie

@@ -11,7 +11,7 @@ use mir.ValLaws.{toZ-ofZ}
 use Rattle.algebra.specs.Limits.{variables}
 use Rattle.algebra.specs.Word.{exponents}
 use Rattle.algebra.proofs.Patterns.Word.{exponents-length}
-use Rattle.router.specs.Powers.{stride, Stands}
+use Rattle.router.specs.Inside.Powers.{stride, Stands}
 use Rattle.router.proofs.TermParts.{Forming, start, sound, again, skipped, ended}
 use Rattle.router.proofs.valuing.tabled_term.Statement.{statement}
 use Rattle.router.proofs.valuing.tabled_term.Tie as tie

@@ -8,7 +8,7 @@ use lib.ListN.{length, getD, length-map}
 use mir.Syntax.{w64}
 use mir.Val.{ofZ, toZ}
 use mir.ValLaws.{toZ-ofZ}
-use Rattle.algebra.specs.Rank.{wordAt, wordsAt}
+use Rattle.algebra.specs.Inside.Rank.{wordAt, wordsAt}
 use Rattle.algebra.proofs.Patterns.Rank.{words-at}
 use Rattle.sums.specs.Rows.{joined, Stands}
 use Rattle.sums.proofs.Holding.{as-many}

@@ -6,7 +6,7 @@ use borrow.Author.Needs.{needs}
 use lib.ListN.{length}
 use Rattle.algebra.specs.Arithmetic.{pairs}
 use Rattle.algebra.specs.Word.{terms}
-use Rattle.algebra.specs.Rank.{wordsAt}
+use Rattle.algebra.specs.Inside.Rank.{wordsAt}
 use Rattle.algebra.specs.Held.{firstTerms}
 use Rattle.sums.specs.Formed.{formedOf, withRow}
 use Rattle.sums.specs.Rows.{Added}

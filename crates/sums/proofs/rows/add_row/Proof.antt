@@ -5,7 +5,7 @@ use borrow.Author.Needs.{needs}
 use lib.ListN.{length, length-map}
 use mir.Syntax.{w64}
 use mir.ValLaws.{toZ-ofZ}
-use Rattle.algebra.specs.Rank.{wordAt}
+use Rattle.algebra.specs.Inside.Rank.{wordAt}
 use Rattle.sums.proofs.Closing.{gap-closed}
 use Rattle.sums.proofs.Ranking.{words-closed}
 use Rattle.sums.proofs.rows.add_row.Statement.{statement}

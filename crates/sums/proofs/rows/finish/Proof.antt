@@ -7,7 +7,7 @@ use lib.IntN.{pos}
 use lib.ListN.{length, getD, length-map}
 use mir.Syntax.{w64}
 use mir.ValLaws.{toZ-ofZ}
-use Rattle.algebra.specs.Rank.{wordAt, wordsAt}
+use Rattle.algebra.specs.Inside.Rank.{wordAt, wordsAt}
 use Rattle.algebra.proofs.Numbers.Signed.{zero-bits, nonzero-bits}
 use Rattle.algebra.proofs.Patterns.Rank.{words-at}
 use Rattle.sums.proofs.Holding.{as-many}

@@ -4,7 +4,7 @@ use Prim.Native.Nat.{_-_, Ordering, Ordering·lt, Ordering·eq, Ordering·gt}
 use native.Mathlib.Omega.{arith}
 use lib.ListN.{getD}
 use Rattle.algebra.specs.Word.{exponents}
-use Rattle.algebra.specs.Rank.{wordAt, wordsAt}
+use Rattle.algebra.specs.Inside.Rank.{wordAt, wordsAt}
 use Rattle.algebra.proofs.Numbers.Compare.{Says}
 use Rattle.sums.proofs.Standing.{lastStands, last-stands}
 use borrow.Author.Needs.{needs}

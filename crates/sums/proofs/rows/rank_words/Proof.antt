@@ -7,7 +7,7 @@ use borrow.Author.Needs.{needs}
 use lib.ListN.{length, length-map}
 use lib.Seq.{take-all}
 use Rattle.algebra.specs.Word.{EachValid}
-use Rattle.algebra.specs.Rank.{rankOf}
+use Rattle.algebra.specs.Inside.Rank.{rankOf}
 use Rattle.answers.proofs.Copies.{Copying, start, again, ended}
 use Rattle.sums.proofs.Holding.{map-at}
 use Rattle.sums.proofs.rows.rank_words.Statement.{statement}

@@ -5,7 +5,7 @@ use native.Mathlib.Omega.{arith}
 use borrow.Author.Needs.{needs}
 use borrow.Author.Tests.{eq-eqb, ne-eqb, lt-ltb}
 use Rattle.text.specs.Signs.{minusSign}
-use Rattle.text.specs.Laid.{signedCount, signedTable}
+use Rattle.text.specs.Inside.Laid.{signedCount, signedTable}
 use Rattle.text.proofs.laying.put_sign.Statement.{statement}
 use Rattle.text.proofs.laying.put_sign.Tie as tie
 

@@ -1,4 +1,4 @@
--- What the readers of terms leave in two arrays that are their callers' own. For contracts inside the library.
+-- What the readers of terms leave in two arrays that are their callers' own.
 use mathlib.Core.Path.{_≡_}
 use mathlib.Core.List.{List, []}
 use Prim.Native.Nat.{ℕ, _<_}
@@ -7,7 +7,9 @@ use lib.ListN.{length, take}
 use Rattle.algebra.specs.Limits.{variables}
 use Rattle.algebra.specs.Sum.{Sum}
 use Rattle.algebra.specs.Held.{wordsOf, coefficientsOf, firstTerms}
+use Rattle.answers.specs.Answers.{Told.done, Told.refused, Outcome, outcome}
 use Rattle.answers.specs.Areas.{written, cleared}
+use Rattle.answers.specs.Judge.{Judged, Judged.good, Judged.fails}
 use Rattle.numbers.specs.Item.{Item, Item.got, Item.cut, Item.bad}
 use Rattle.packed.specs.ReadSum.{readTerms}
 use Rattle.packed.specs.Pack.{goodTerms}
@@ -24,6 +26,11 @@ unfoldable pub takenInto : ℕ → Item Sum → List ℕ → List ℤ → Item �
 takenInto count (got s next) ws cs = (got (length s) next, written (wordsOf s) ws, written (coefficientsOf s) cs)
 takenInto count (cut place) ws cs = (cut place, cleared 0 count ws, cleared (pos 0) count cs)
 takenInto count (bad place) ws cs = (bad place, cleared 0 count ws, cleared (pos 0) count cs)
+
+-- the same as an outcome, of an operation that reads all of its bytes
+unfoldable pub wholeInto : ℕ → Judged Sum → List ℕ → List ℤ → Outcome (List ℕ × List ℤ)
+wholeInto count (good s) ws cs = outcome (done (length s)) (written (wordsOf s) ws, written (coefficientsOf s) cs)
+wholeInto count (fails refusal place) ws cs = outcome (refused refusal place) (cleared 0 count ws, cleared (pos 0) count cs)
 
 -- terms were copied, not judged, into the first `count` places of two arrays that held ws₀ and cs₀, and `end` is the place after them; or it is 0. If they were, and all are good, they are the
 -- terms that are read there

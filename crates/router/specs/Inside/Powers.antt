@@ -7,7 +7,7 @@ use lib.ListN.{length, getD}
 use Rattle.algebra.specs.Limits.{variables}
 use Rattle.algebra.specs.Pattern.{Pattern, exponent}
 use Rattle.algebra.specs.Word.{exponents}
-use Rattle.router.specs.Parts.{Holds}
+use Rattle.router.specs.Inside.Parts.{Holds}
 
 -- the places of a row
 abbrev pub stride : List ℕ → ℕ

@@ -1,0 +1,3 @@
+-- What only contracts between the library's own functions name: no promise to a caller rests on it.
+pub mod Work
+pub mod Direct

@@ -1,0 +1,4 @@
+-- What only contracts between the library's own functions name: no promise to a caller rests on it.
+pub mod Found
+pub mod Parts
+pub mod Powers
