@@ -11,7 +11,8 @@ use Rattle.numbers.proofs.Items.{CutAt, Alike.both-cut, Alike.both-bad}
 use Rattle.change.specs.Pairs.{Fault, Fault.ended, Listed, Listed.listed, Listed.faulty, andThen, provided, mapped, toTheEnd}
 use Rattle.change.specs.Inside.Kept.{itemFault}
 
-never : {A : Type 0} {what : Fault} {place next : ℕ} {a : A} → faulty what place ≡ listed a next → ⊥
+-- nothing is both
+pub never : {A : Type 0} {what : Fault} {place next : ℕ} {a : A} → faulty what place ≡ listed a next → ⊥
 never e = let z : _≡_ {A = ℕ} 0 1 = cc in omega arith
 
 -- ---- Forwards.

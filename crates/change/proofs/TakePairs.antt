@@ -20,7 +20,7 @@ use Rattle.sums.proofs.Parts.{span}
 use Rattle.change.specs.Pairs.{Pair, pair, Fault, Fault.unknown, Listed, Listed.listed, Listed.faulty, mapped, readPairs}
 use Rattle.change.specs.Inside.Kept.{itemFault, pairsFrom, Kept, KeepsRead}
 use Rattle.change.specs.declared.lists.Listed.the-variants as answer
-use Rattle.change.proofs.Reading.{then-got, provided-yes, mapped-listed, mapped-mapped, From, carry, Alike, Alike.both, alike-then, alike-provided, alike-mapped, alike-shown}
+use Rattle.change.proofs.Reading.{never, then-got, provided-yes, mapped-listed, mapped-mapped, From, carry, Alike, Alike.both, alike-then, alike-provided, alike-mapped, alike-shown}
 use Rattle.change.proofs.Keeping.{pairs-many, stays-put, kept-next, pairs-next}
 
 -- ---- What a reader of pairs answers and leaves, where it read so.
@@ -34,9 +34,6 @@ pub record Leaves (read : Listed (List Pair)) (answer : Listed ℕ) (ws₀ : Lis
 -- nothing is kept where nothing was read
 none-kept : {answer : Listed ℕ} {read : Listed (List Pair)} (vs ns ws : List ℕ) (cs : List ℤ) → Alike answer read → KeepsRead read vs ns ws cs
 none-kept vs ns ws cs both = record { kept = λ ps next e. absurd (never e); pairs-are = λ ps next e. absurd (never e) }
-  where
-    never : {what : Fault} {place next : ℕ} {ps : List Pair} → faulty what place ≡ listed ps next → ⊥
-    never e = let z : _≡_ {A = ℕ} 0 1 = cc in omega arith
 
 pub leaves-fault : {read : Listed (List Pair)} {answer told : Listed ℕ} (ws₀ : List ℕ) (cs₀ : List ℤ) (vs ns ws : List ℕ) (cs : List ℤ) → answer ≡ told → Alike told read
     → drop workPlaces ws ≡ drop workPlaces ws₀ → drop workPlaces cs ≡ drop workPlaces cs₀ → Leaves read answer ws₀ cs₀ vs ns ws cs

@@ -13,7 +13,7 @@ use lib.ListN.{length, getD, take, drop, set, replicate, length-append, length-s
 use lib.Seq.{drop-cons, getD-at, take-suc-set}
 use Rattle.algebra.specs.Limits.{largestDegree, mostTerms, largestWeight, mostNodes, workPlaces}
 use Rattle.algebra.specs.Sum.{Sum, degreeOf, weight}
-use Rattle.algebra.proofs.Numbers.Test.{true-is}
+use lib.Ieee.Bits.{is-true}
 use Rattle.answers.specs.Refusals.{NODE, DEGREE, WEIGHT, SPREAD}
 use Rattle.answers.specs.Answers.{Told, Told.done, Told.refused}
 use Rattle.sums.specs.Formed.{formedOf}
@@ -114,7 +114,7 @@ start table ws cs shaped words-room coefficients-room =
       degrees-are = refl;
       weights-are = refl;
       inside = omega arith;
-      shape = shape-says (length table) (true-is (isShape (length table)) shaped);
+      shape = shape-says (length table) (is-true (isShape (length table)) shaped);
       degrees-long = long;
       weights-long = long;
       counts-long = long;

@@ -12,7 +12,7 @@ use Rattle.algebra.specs.Limits.{variables, mostTerms, mostNodes}
 use Rattle.algebra.specs.Accepted.{Accepted}
 use Rattle.algebra.specs.Sum.{Sum}
 use Rattle.algebra.specs.Held.{firstTerms}
-use Rattle.algebra.proofs.Numbers.Test.{and-l, and-r}
+use lib.Ieee.Fits.{and-l, and-r}
 use Rattle.answers.specs.Refusals.{SUM}
 use Rattle.answers.specs.Answers.{Told.done, outcome, check}
 use Rattle.answers.specs.Areas.{written}

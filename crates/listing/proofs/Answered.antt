@@ -34,24 +34,13 @@ use Rattle.formula.proofs.Simplifying.{shape-says}
 use Rattle.text.specs.Limits.{tablePlaces}
 use Rattle.text.specs.Tree.{Tree, nodesOf}
 use Rattle.text.specs.Text.{judgeText, tableInto, readFormula, textSum}
-use Rattle.answers.proofs.Judging.{good-fails}
+use Rattle.answers.proofs.Judging.{good-fails, done-refused, done-same}
 use Rattle.text.proofs.Trees.{nodes-length}
 use Rattle.listing.specs.Inside.Bytes.{Packs}
 use Rattle.listing.specs.Lines.{mostLines, sumLines, refusalLine}
 use Rattle.listing.specs.Listing.{listed, withoutNewline, list}
 
 -- ---- Answers.
-
--- an outcome that tells something else
-no-outcome : {A : Type 0} {n refusal place : ℕ} {x y : A} → outcome (done n) x ≡ outcome (refused refusal place) y → ⊥
-no-outcome e = let told-alike = ap (λ (o : Outcome _). o .answer) e in let z : _≡_ {A = ℕ} 0 1 = cc in absurd (omega arith)
-
-module _ {A : Type 0} {x y : A} {n m : ℕ} (e : outcome (done n) x ≡ outcome (done m) y) where
-  done-same : n ≡ m
-  done-same = let told-alike = ap (λ (o : Outcome A). o .answer) e in cc
-
-  areas-same : x ≡ y
-  areas-same = ap (λ (o : Outcome A). o .areas) e
 
 refused-same : {A B : Type 0} {x y : A} {r s p q : ℕ} → outcome (refused r p) x ≡ outcome (refused s q) y → _≡_ {A = Judged B} (fails r p) (fails s q)
 refused-same {A} {B} e = let told-alike = ap (λ (o : Outcome A). o .answer) e in cc
@@ -74,17 +63,17 @@ module _ (bytes ws : List ℕ) (cs : List ℤ) (words-room : mostTerms ≤ lengt
   pub unpacked : {count : ℕ} → a ≡ Done count → Terms s count ws' cs'
   unpacked d =
       let f = gives (ap told d) in
-      let many = sym (done-same f) in
-      let words = written-front (wordsOf s) ws (ap (λ (x : List ℕ × List ℤ). x .0) (areas-same f)) (length-map s _ ∙ many) in
-      let coefficients = written-front (coefficientsOf s) cs (ap (λ (x : List ℕ × List ℤ). x .1) (areas-same f)) (length-map s _ ∙ many) in
+      let many = sym (done-same f .0) in
+      let words = written-front (wordsOf s) ws (ap (λ (x : List ℕ × List ℤ). x .0) (done-same f .1)) (length-map s _ ∙ many) in
+      let coefficients = written-front (coefficientsOf s) cs (ap (λ (x : List ℕ × List ℤ). x .1) (done-same f .1)) (length-map s _ ∙ many) in
       record {
         words = words .1;
         coefficients = coefficients .1;
-        terms-are = written-terms ws cs (p .accepted) (ap (λ (x : List ℕ × List ℤ). x .0) (areas-same f)) (ap (λ (x : List ℕ × List ℤ). x .1) (areas-same f)) many;
+        terms-are = written-terms ws cs (p .accepted) (ap (λ (x : List ℕ × List ℤ). x .0) (done-same f .1)) (ap (λ (x : List ℕ × List ℤ). x .1) (done-same f .1)) many;
       }
 
   pub never-refused : {refusal : Refusal} {place : ℕ} → a ≡ Refused refusal place → ⊥
-  never-refused d = no-outcome (sym (gives (ap told d)))
+  never-refused d = done-refused (sym (gives (ap told d)))
 
 -- ---- Tables.
 
@@ -119,14 +108,14 @@ module _ (table : List ℤ) (ws : List ℕ) (cs : List ℤ) (area : List ℕ) (r
           → Simple table n area'
       go (good nodes) is f =
           let s = lastSum nodes in
-          let front = written-front (packed s) area (ap (λ (x : Areas). x .2) (areas-same f)) (sym (done-same f)) in
+          let front = written-front (packed s) area (ap (λ (x : Areas). x .2) (done-same f .1)) (sym (done-same f .0)) in
           record {
             sum = s;
             is = rw is;
             short = front .1;
             packs = λ m h. record { accepted = last-accepted (judged-passes table nodes is .passed); bytes-are = ap (λ (k : ℕ). take k area') h ∙ front .0 };
           }
-      go (fails refusal node) is f = absurd (no-outcome f)
+      go (fails refusal node) is f = absurd (done-refused f)
 
   pub not-simplified : {refusal : Refusal} {place : ℕ} → a ≡ Refused refusal place → tableSum table ≡ fails (number refusal) place
   unfolding packedInto
@@ -134,7 +123,7 @@ module _ (table : List ℤ) (ws : List ℕ) (cs : List ℤ) (area : List ℕ) (r
     where
       go : (j : Judged Sum) → outcome (refused (number refusal) place) (ws', cs', area') ≡ beside (cleared 0 workPlaces ws) (cleared (pos 0) workPlaces cs) (packedInto j area)
           → j ≡ fails (number refusal) place
-      go (good s) f = absurd (no-outcome (sym f))
+      go (good s) f = absurd (done-refused (sym f))
       go (fails r node) f = refused-same (sym f)
 
 -- ---- Typed formulas.
@@ -161,10 +150,10 @@ module _ (text : List ℕ) (table : List ℤ) (room : tablePlaces ≤ length tab
       go : (j : Judged Tree) → judgeText text ≡ j → outcome (done n) table' ≡ tableInto j table → Typed text n table'
       go (good t) is f =
           let ks = nodesOf 0 t in
-          let long = table-length ks ∙ ap (λ (k : ℕ). 3 * k) (nodes-length 0 t ∙ sym (done-same f)) in
-          let front = written-front (tableOf ks) table (areas-same f) long in
+          let long = table-length ks ∙ ap (λ (k : ℕ). 3 * k) (nodes-length 0 t ∙ sym (done-same f .0)) in
+          let front = written-front (tableOf ks) table (done-same f .1) long in
           record { short = front .1; is = rw is (ap tableSum (sym (front .0))) }
-      go (fails refusal place) is f = absurd (no-outcome f)
+      go (fails refusal place) is f = absurd (done-refused f)
 
   pub not-typed : {refusal : Refusal} {place : ℕ} → a ≡ Refused refusal place → textSum text ≡ fails (number refusal) place
   unfolding textSum andThen tableInto
@@ -172,7 +161,7 @@ module _ (text : List ℕ) (table : List ℤ) (room : tablePlaces ≤ length tab
     where
       go : (j : Judged Tree) → outcome (refused (number refusal) place) table' ≡ tableInto j table
           → andThen j (λ t. tableSum (tableOf (nodesOf 0 t))) ≡ fails (number refusal) place
-      go (good t) f = absurd (no-outcome (sym f))
+      go (good t) f = absurd (done-refused (sym f))
       go (fails r p) f = refused-same (sym f)
 
 -- ---- What is listed.
@@ -197,5 +186,5 @@ list-within input area a {area'} {n} e d =
     go (leb (mostLines variables) (length area)) (listed (textSum (withoutNewline input))) (sym (ap (λ (b : Answer). outcome (told b) area') d) ∙ e)
   where
     go : (b : Bool) (lines : List ℕ) → outcome (done n) area' ≡ check b ROOM 0 area (outcome (done (length lines)) (written lines area)) → n ≤ length area'
-    go true lines f = omega (arith, done-same f, ap (length {A = ℕ}) (areas-same f), length-append lines (drop (length lines) area))
-    go false lines f = absurd (no-outcome f)
+    go true lines f = omega (arith, done-same f .0, ap (length {A = ℕ}) (done-same f .1), length-append lines (drop (length lines) area))
+    go false lines f = absurd (done-refused f)

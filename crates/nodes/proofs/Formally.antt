@@ -5,7 +5,7 @@ use mathlib.Core.List.{List}
 use Prim.Native.Nat.{ℕ, _≤_, _<_}
 use lib.Dec.{T, ltb, leb, ltb→lt, leb→le}
 use Rattle.algebra.specs.Limits.{variables, largestDegree}
-use Rattle.algebra.proofs.Numbers.Test.{and-l, and-r}
+use lib.Ieee.Fits.{and-l, and-r}
 use Rattle.nodes.specs.Node.{kindOf, isNode}
 use Rattle.nodes.specs.Formal.{formalDegree, formalWeight}
 use Rattle.nodes.specs.declared.Kind.{Kind}

@@ -1,6 +1,6 @@
 -- Two sums in order, merged from the front: x terms of s and y of t are done, and what they gave stands before what the others give.
 use mathlib.Core.Path.{_≡_, refl, sym, _∙_, ap, ap₂, subst}
-use mathlib.Core.Bool.{Bool, true, false, not}
+use mathlib.Core.Bool.{Bool, true, false}
 use mathlib.Core.List.{[], _∷_, _++_, append-nil}
 use Prim.Native.Nat.{ℕ, zero, suc, _+_, _≤_, _<_, Ordering, Ordering·lt, Ordering·eq, Ordering·gt}
 use native.Mathlib.Omega.{arith}
@@ -15,7 +15,7 @@ use Rattle.algebra.specs.Pattern.{Pattern, order}
 use Rattle.algebra.specs.Sum.{Term, term, Sum, isZero, isBefore, ahead, inOrder, noZero}
 use Rattle.algebra.specs.Collect.{keep, gather, dropZeros, collect, spread}
 use Rattle.algebra.specs.Arithmetic.{_⊕_, sumSpread}
-use Rattle.algebra.proofs.Numbers.Test.{true-is}
+use lib.Ieee.Bits.{is-true, is-false}
 use Rattle.algebra.proofs.Sums.Ordered.{is-before, order-back, order-tail, full-head, full-tail}
 use Rattle.sums.proofs.Merging.{none}
 use Rattle.nodes.specs.Inside.Direct.{nextStands}
@@ -25,10 +25,10 @@ use Rattle.nodes.proofs.Heads.{sum-first, spread-first, sum-second, spr
 
 module _ (x n y m : ℕ) (p q : Pattern) where
   pub stands-first : y ≡ m → nextStands x n y m p q ≡ Ordering·lt
-  stands-first e = rw e (rw (true-is (eqb m m) (eqb-refl m)) refl)
+  stands-first e = rw e (rw (is-true (eqb m m) (eqb-refl m)) refl)
 
   pub stands-second : (y ≡ m → ⊥) → x ≡ n → nextStands x n y m p q ≡ Ordering·gt
-  stands-second f e = rw (ne-eqb y m f) (rw e (rw (true-is (eqb n n) (eqb-refl n)) refl))
+  stands-second f e = rw (ne-eqb y m f) (rw e (rw (is-true (eqb n n) (eqb-refl n)) refl))
 
   pub stands-ordered : (y ≡ m → ⊥) → (x ≡ n → ⊥) → nextStands x n y m p q ≡ order p q
   stands-ordered f g = rw (ne-eqb y m f) (rw (ne-eqb x n g) refl)
@@ -80,11 +80,7 @@ rest-strict (suc x) (t ∷ s) k = rest-strict x s (order-tail t s k)
 
 full-at : (s : Sum) (x : ℕ) → T (noZero s) → x < length s → isZero (getD s x none .coefficient) ≡ false
 full-at [] x f h = absurd (omega arith)
-full-at (t ∷ s) zero f h = not-true (isZero (t .coefficient)) (full-head t s f)
-  where
-    not-true : (b : Bool) → T (not b) → b ≡ false
-    not-true true h = absurd h
-    not-true false h = refl
+full-at (t ∷ s) zero f h = is-false (isZero (t .coefficient)) (full-head t s f)
 full-at (t ∷ s) (suc x) f h = full-at s x (full-tail t s f) (omega arith)
 
 -- its first term, and the others

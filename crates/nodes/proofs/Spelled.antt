@@ -10,7 +10,7 @@ use lib.ListN.{length, getD}
 use borrow.Author.Tests.{lt-ltb}
 use Rattle.algebra.specs.Limits.{variables, largestDegree}
 use Rattle.algebra.specs.Sum.{isZero}
-use Rattle.algebra.proofs.Numbers.Test.{and, and-l, and-r}
+use lib.Ieee.Fits.{and-i, and-l, and-r}
 use Rattle.answers.specs.Refusals.{NODE}
 use Rattle.answers.specs.Judge.{Judged, Judged.good, Judged.fails, holding}
 use Rattle.nodes.specs.Node.{Kind, Kind.integer, Kind.variable, Kind.sum, Kind.product, Kind.power, numbersOf, isNode, isIn, readKind, readNode}
@@ -97,7 +97,7 @@ module _ (i : ℕ) (first second : ℤ) where
   two-before : T (isIn i first && isIn i second) → T (ltb (natAbs first) i && ltb (natAbs second) i)
   two-before t =
       let p = pair (pos 0) i i t in
-      and (ltb (natAbs first) i) (ltb (natAbs second) i) (lt→ltb (natAbs first) i (p .1)) (lt→ltb (natAbs second) i (p .2))
+      and-i (ltb (natAbs first) i) (ltb (natAbs second) i) (lt→ltb (natAbs first) i (p .1)) (lt→ltb (natAbs second) i (p .2))
 
   integer-spelled : T (isZero second) → Spells i (pos 0 ∷ first ∷ second ∷ []) (integer first)
   integer-spelled t = record { is-node = tt; numbers-are = ap (λ z. pos 0 ∷ first ∷ z ∷ []) (zero-is second t) }
@@ -121,7 +121,7 @@ module _ (i : ℕ) (first second : ℤ) where
       let p = pair (pos 4) i (suc largestDegree) t in
       record {
         is-node =
-            and (ltb (natAbs first) i) (leb (natAbs second) largestDegree) (lt→ltb (natAbs first) i (p .1))
+            and-i (ltb (natAbs first) i) (leb (natAbs second) largestDegree) (lt→ltb (natAbs first) i (p .1))
             (le→leb (natAbs second) largestDegree (omega (arith, p .2)));
         numbers-are = p .0;
       }

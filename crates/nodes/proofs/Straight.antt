@@ -15,6 +15,7 @@ use Rattle.algebra.proofs.Sums.Occurs.{spread-length}
 use Rattle.algebra.proofs.Sums.Ring.{product-comm}
 use Rattle.algebra.proofs.Sums.Spreads.{product-spread-comm}
 use Rattle.sums.specs.Formed.{Formed.formed, Formed.over, within, sumOf, productOf}
+use Rattle.sums.proofs.Multiplying.{product-turned}
 use Rattle.sums.proofs.Forming.{within-yes}
 use Rattle.nodes.specs.Node.{Kind.sum, Kind.product}
 use Rattle.nodes.specs.Inside.Work.{sumsAt, nodeFormed, Ready}
@@ -79,10 +80,6 @@ product-formed {a = a} {b} {m} {ws} {cs} asked =
     let t = sumIn b m ws cs in
     sym (within-yes (productSpread s t) (s ⊗ t) (product-few asked))
 
-turned : (s t : Sum) → productOf s t ≡ productOf t s
-unfolding productOf
-turned s t = ap₂ within (product-spread-comm s t) (product-comm s t)
-
 module _ {i a b : ℕ} {ns : List ℕ} {ws : List ℕ} {cs : List ℤ} (r : Ready i ns ws cs (product a b)) where
   pub factors-there : (a < i) × (b < i)
   factors-there = two-children i a b (r .is-node)
@@ -129,4 +126,4 @@ module _ {i a b : ℕ} {ns : List ℕ} {ws : List ℕ} {cs : List ℤ} (r : Read
     }
 
     pub second-formed : formed (sumIn b 1 ws cs ⊗ sumIn a n ws cs) ≡ nodeFormed (sumsAt i ns ws cs) (product a b)
-    second-formed = product-formed second-asked ∙ turned (sumIn b 1 ws cs) (sumIn a n ws cs) ∙ product-is is is'
+    second-formed = product-formed second-asked ∙ product-turned (sumIn b 1 ws cs) (sumIn a n ws cs) ∙ product-is is is'

@@ -11,7 +11,8 @@ use Rattle.algebra.specs.Limits.{variables, largestDegree, mostTerms, largestWe
 use Rattle.algebra.specs.Pattern.{degree}
 use Rattle.algebra.specs.Word.{exponents, termsBy, terms, isValid, Valid, EachValid}
 use Rattle.algebra.specs.Sum.{Term, term, Sum, isZero, ahead, inOrder, noZero, weight}
-use Rattle.algebra.proofs.Numbers.Test.{and, and-l, and-r, true-is}
+use lib.Ieee.Fits.{and-i, and-l, and-r}
+use lib.Ieee.Bits.{is-true}
 use Rattle.algebra.proofs.Patterns.Word.{exponents-length, valid-test, test-valid}
 use Rattle.algebra.proofs.Sums.Every.{Every, Long, UpTo, degree-every, every-degree}
 use Rattle.algebra.proofs.Sums.Ordered.{Parts, parts, whole, order-cons, order-head, order-tail, full-head, full-tail}
@@ -43,7 +44,7 @@ module _ (before : ℕ) (c : ℤ) where
 
   pub weighs-is : T (not (isZero c)) → before + natAbs c ≤ largestWeight → T (weighs before c)
   unfolding weighs
-  weighs-is h k = and (not (isZero c)) (leb (before + natAbs c) largestWeight) h (le→leb (before + natAbs c) largestWeight k)
+  weighs-is h k = and-i (not (isZero c)) (leb (before + natAbs c) largestWeight) h (le→leb (before + natAbs c) largestWeight k)
 
 -- the term before and the first of s stand in order
 abbrev Leads : Sum → Sum → Type 0
@@ -101,7 +102,7 @@ good-parts n before (t ∷ s) (more f g) =
     let p = good-parts n (t ∷ before) s g in
     record {
       strict = order-cons t s (ahead-leads n t before s g) (p .strict);
-      full = and (not (isZero (t .coefficient))) (noZero s) (weighs-some (weight before) (t .coefficient) (f .light)) (p .full);
+      full = and-i (not (isZero (t .coefficient))) (noZero s) (weighs-some (weight before) (t .coefficient) (f .light)) (p .full);
       long = (f .long, p .long);
     }
 
@@ -133,7 +134,7 @@ module _ (before : Sum) (w : ℕ) (c : ℤ) where
   pub fit-good : Valid w → Fit variables before (term c (exponents w)) → T (isGood before w c)
   unfolding isGood
   fit-good valid f =
-      and (weighs (weight before) c && isValid w) (follows before (exponents w)) (and (weighs (weight before) c) (isValid w) (f .light) (valid-test w valid)) (f .after)
+      and-i (weighs (weight before) c && isValid w) (follows before (exponents w)) (and-i (weighs (weight before) c) (isValid w) (f .light) (valid-test w valid)) (f .after)
 
   pub good-fit : T (isGood before w c) → (Valid w) × (Fit variables before (term c (exponents w)))
   unfolding isGood
@@ -164,7 +165,7 @@ unfolding goodTerms terms termsBy
 good-terms before [] cs valid e g = refl
 good-terms before (w ∷ ws) [] valid e g = absurd (omega arith)
 good-terms before (w ∷ ws) (c ∷ cs) valid e (more f g) =
-    rw (true-is (isGood before w c) (fit-good before w c (valid .0) f), good-terms (term c (exponents w) ∷ before) ws cs (valid .1) (omega arith) g)
+    rw (is-true (isGood before w c) (fit-good before w c (valid .0) f), good-terms (term c (exponents w) ∷ before) ws cs (valid .1) (omega arith) g)
 
 pub terms-good : (before : Sum) (ws : List ℕ) (cs : List ℤ) → goodTerms before ws cs ≡ length ws → (AllValid ws) × (Good variables before (terms ws cs))
 unfolding goodTerms terms termsBy

@@ -13,7 +13,8 @@ use Rattle.algebra.specs.Sum.{Term, term, Sum, isBefore, weight}
 use Rattle.algebra.specs.Word.{exponents, Valid}
 use Rattle.algebra.proofs.Numbers.Absolute.{no-size, some-size}
 use Rattle.algebra.proofs.Numbers.Compare.{Says, compare-says}
-use Rattle.algebra.proofs.Numbers.Test.{true-is, false-is}
+use lib.Ieee.Bits.{is-true}
+use Rattle.algebra.proofs.Numbers.Test.{false-is}
 use Rattle.algebra.proofs.Patterns.Word.{exponents-length, test-valid, low-decides, quotient-small, word-order}
 use Rattle.packed.specs.Judge.{follows}
 use Rattle.packed.specs.Pack.{isGood, goodTerms}
@@ -29,7 +30,7 @@ none-left before cs = refl
 module _ (before : Sum) (w : ℕ) (c : ℤ) (ws : List ℕ) (cs : List ℤ) where
   good-next : T (isGood before w c) → goodTerms before (w ∷ ws) (c ∷ cs) ≡ suc (goodTerms (term c (exponents w) ∷ before) ws cs)
   unfolding goodTerms
-  good-next h = rw (true-is (isGood before w c) h)
+  good-next h = rw (is-true (isGood before w c) h)
 
   bad-next : (T (isGood before w c) → ⊥) → goodTerms before (w ∷ ws) (c ∷ cs) ≡ 0
   unfolding goodTerms

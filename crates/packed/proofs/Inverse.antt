@@ -11,7 +11,7 @@ use lib.Seq.{length-take-le}
 use Rattle.algebra.specs.Limits.{variables, largestDegree, mostTerms}
 use Rattle.algebra.specs.Sum.{Sum}
 use Rattle.algebra.specs.Word.{terms}
-use Rattle.algebra.proofs.Numbers.Test.{and-l, and-r}
+use lib.Ieee.Fits.{and-l, and-r}
 use Rattle.algebra.proofs.Patterns.Word.{word-valid}
 use Rattle.algebra.proofs.Sums.Held.{word-for, terms-again}
 use Rattle.algebra.proofs.Sums.Every.{Every, Long, UpTo, degree-every}

@@ -11,6 +11,7 @@ use lib.IntN.{ℤ}
 use lib.ListN.{length, getD}
 use Rattle.algebra.specs.Limits.{variables, largestDegree, mostTerms}
 use Rattle.algebra.specs.Sum.{term, Sum, weight}
+use Rattle.answers.proofs.Judging.{done-refused}
 use Rattle.numbers.specs.Item.{Item, Item.got, Item.cut, Item.bad, placeOf}
 use Rattle.numbers.specs.Number.{mostGroups, numberBytes, readNumber}
 use Rattle.numbers.specs.Code.{decode}
@@ -134,9 +135,6 @@ module _ (s : List ℕ) where
 -- the place of a refusal
 refused-place : {Areas : Type 0} {r q p : ℕ} {x y : Areas} {k : ℕ} → outcome (refused r p) x ≡ outcome (refused q k) y → p ≡ k
 refused-place {r = r} {q = q} {p = p} {k = k} e = let told : refused r p ≡ refused q k = ap (λ o. o .answer) e in cc
-
-done-refused : {Areas : Type 0} {n q k : ℕ} {x y : Areas} → outcome (done n) x ≡ outcome (refused q k) y → ⊥
-done-refused {n = n} {q = q} {k = k} e = let told : done n ≡ refused q k = ap (λ o. o .answer) e in let z : _≡_ {A = ℕ} 0 1 = cc in omega arith
 
 -- unpack's is below 65,536 too
 pub unpack-place : (bytes ws : List ℕ) (cs : List ℤ) {r place : ℕ} {areas : List ℕ × List ℤ} → ((i : ℕ) → getD bytes i 0 < 256)

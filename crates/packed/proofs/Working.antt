@@ -9,7 +9,9 @@ use lib.ListN.{length, drop, replicate, length-replicate}
 use borrow.Author.Tests.{le-leb}
 use Rattle.algebra.specs.Limits.{variables, workPlaces}
 use Rattle.algebra.specs.Sum.{Sum}
-use Rattle.algebra.proofs.Numbers.Test.{and-l, and-r, true-is, false-is}
+use lib.Ieee.Fits.{and-l, and-r}
+use lib.Ieee.Bits.{is-true}
+use Rattle.algebra.proofs.Numbers.Test.{false-is}
 use Rattle.answers.specs.Refusals.{ROOM}
 use Rattle.answers.specs.Answers.{Told, Told.refused, outcome}
 use Rattle.answers.specs.Areas.{cleared}
@@ -61,7 +63,7 @@ module _ (judged : Judged Sum) (ws : List ℕ) (cs : List ℤ) (area : List ℕ)
 
   pub without-room : (Room ws cs area → ⊥) → worked judged ws cs area ≡ outcome (refused ROOM 0) (ws, cs, area)
   unfolding worked
-  without-room f = rw (false-is (hasRoom ws cs area) (λ t. f (tested-room ws cs area (true-is (hasRoom ws cs area) t))))
+  without-room f = rw (false-is (hasRoom ws cs area) (λ t. f (tested-room ws cs area (is-true (hasRoom ws cs area) t))))
 
 cleared-same : {A : Type 0} (zero : A) (count : ℕ) (xs ys : List A) → drop count xs ≡ drop count ys → cleared zero count xs ≡ cleared zero count ys
 cleared-same zero count xs ys h = ap (λ l. replicate count zero ++ l) (rw (length-replicate count zero) h)

@@ -14,6 +14,7 @@ use Rattle.algebra.specs.Substitute.{pairDegree, pairWeight, largestPower}
 use Rattle.algebra.specs.Word.{exponents, terms}
 use Rattle.algebra.proofs.Patterns.Laws.{exponent-degree, without-degree}
 use Rattle.algebra.proofs.Sums.Results.{append-weight}
+use Rattle.sums.proofs.Multiplying.{weight-take}
 use Rattle.sums.specs.Held.{Held, HeldSum}
 use Rattle.sums.proofs.Holding.{each-valid, terms-many, terms-next}
 use Rattle.weights.specs.Capped.{capped}
@@ -48,10 +49,6 @@ module _ (v : ℕ) where
     pair-weight-next [] t = omega arith
     pair-weight-next (u ∷ s) t = omega (arith, pair-weight-next s t)
 
--- the terms so far weigh no more than all
-weight-front : (k : ℕ) (s : Sum) → weight (take k s) ≤ weight s
-weight-front k s = omega (arith, append-weight (take k s) (drop k s), ap weight (take-append-drop k s))
-
 -- ---- The loop of `size_of`.
 
 pub record Sizing (ws : List ℕ) (cs : List ℤ) (d w k : ℕ) : Type 0 where
@@ -74,7 +71,7 @@ module _ {ws : List ℕ} {cs : List ℤ} {d w k : ℕ} (z : Sizing ws cs d w k) 
     weighs = sym (ap weight (terms-next (z .held) k h) ∙ weight-next (take k (terms ws cs)) t ∙ ap (λ (i : ℕ). i + natAbs (t .coefficient)) (sym (z .weight-is)))
 
     pub sizing-fits : w + natAbs (getD cs k (pos 0)) ≤ largestWeight
-    sizing-fits = omega (arith, weighs, weight-front (k + 1) (terms ws cs), z .light)
+    sizing-fits = omega (arith, weighs, weight-take (k + 1) (terms ws cs), z .light)
 
     pub sizing-again : {d' w' : ℕ} → d' ≡ max d (degree (exponents (getD ws k 0))) → w' ≡ w + natAbs (getD cs k (pos 0)) → Sizing ws cs d' w' (k + 1)
     sizing-again degree-is weight-is = record {

@@ -14,7 +14,7 @@ use Rattle.answers.specs.Refusals.{ROOM}
 use Rattle.answers.specs.Answers.{Told.done, Told.refused, Outcome, outcome, check}
 use Rattle.answers.specs.Areas.{cleared}
 use Rattle.answers.specs.Judge.{Judged, Judged.good, Judged.fails, holding, andThen}
-use Rattle.answers.proofs.Judging.{then-good, then-fails}
+use Rattle.answers.proofs.Judging.{then-good, then-fails, refused-done}
 use Rattle.packed.specs.Result.{Areas, packedInto, beside, worked}
 use Rattle.packed.proofs.Results.{sum-judged}
 use Rattle.packed.proofs.Working.{hasRoom}
@@ -57,16 +57,13 @@ told-fails e = cc
 told-room : {r p : ℕ} → refused ROOM 0 ≡ refused r p → r ≡ ROOM
 told-room e = cc
 
-done-refused : {n r p : ℕ} → done n ≡ refused r p → ⊥
-done-refused e = let z : _≡_ {A = ℕ} 0 1 = cc in omega arith
-
 worked-refused : (j : Judged Sum) (ws : List ℕ) (cs : List ℤ) (area : List ℕ) {r p : ℕ} {areas : Areas} → worked j ws cs area ≡ outcome (refused r p) areas → (r ≡ ROOM → ⊥) → j ≡ fails r p
 unfolding worked packedInto
 worked-refused j ws cs area {r} {p} {areas} e not-room = room (hasRoom ws cs area) j (ap (λ (o : Outcome Areas). o .answer) e)
   where
     room : (b : Bool) (j : Judged Sum) → check b ROOM 0 (ws, cs, area) (beside (cleared 0 workPlaces ws) (cleared (pos 0) workPlaces cs) (packedInto j area)) .answer ≡ refused r p → j ≡ fails r p
     room false j e = absurd (not-room (told-room e))
-    room true (good s) e = absurd (done-refused e)
+    room true (good s) e = absurd (refused-done (sym e))
     room true (fails q k) e = told-fails e
 
 read-refused : (text : List ℕ) (area : List ℤ) {r p : ℕ} {area' : List ℤ} → readFormula text area ≡ outcome (refused r p) area' → (r ≡ ROOM → ⊥) → judgeText text ≡ fails r p
@@ -75,7 +72,7 @@ read-refused text area {r} {p} e not-room = room (leb tablePlaces (length area))
   where
     room : (b : Bool) (j : Judged Tree) → check b ROOM 0 area (tableInto j area) .answer ≡ refused r p → j ≡ fails r p
     room false j e = absurd (not-room (told-room e))
-    room true (good t) e = absurd (done-refused e)
+    room true (good t) e = absurd (refused-done (sym e))
     room true (fails q k) e = told-fails e
 
 -- ---- From the text to the estimate.

@@ -18,7 +18,7 @@ use Rattle.algebra.specs.Collect.{gather, dropZeros, collect}
 use Rattle.algebra.specs.Arithmetic.{timesTerm, row, pairs, _⊗_, productSpread, power, powerSpread}
 use Rattle.algebra.specs.Word.{word, exponents, wordOf, fieldSize, termsBy, terms}
 use Rattle.algebra.proofs.Numbers.Absolute.{abs-mul, abs-pow, times-some}
-use Rattle.algebra.proofs.Numbers.Test.{and}
+use lib.Ieee.Fits.{and-i}
 use Rattle.algebra.proofs.Numbers.Whole.{one-*ℤ}
 use Rattle.algebra.proofs.Patterns.Fields.{word-times, word-most}
 use Rattle.algebra.proofs.Patterns.Laws.{times-length}
@@ -41,7 +41,7 @@ row-full : (u : Term) (t : Sum) → T (not (isZero (u .coefficient))) → T (noZ
 unfolding row noZero
 row-full u [] h f = tt
 row-full u (v ∷ t) h f =
-    and (not (isZero (u .coefficient *ℤ v .coefficient))) (noZero (row u t)) (times-some (u .coefficient) (v .coefficient) h (full-head v t f)) (row-full u t h (full-tail v t f))
+    and-i (not (isZero (u .coefficient *ℤ v .coefficient))) (noZero (row u t)) (times-some (u .coefficient) (v .coefficient) h (full-head v t f)) (row-full u t h (full-tail v t f))
 
 module _ (u : Term) (t : Sum) (long : length (u .pattern) ≡ variables) (each : Every (Long variables) t) (k : T (inOrder t)) where
   gathered : gather (pairs (u ∷ []) t) ≡ row u t
@@ -80,7 +80,7 @@ module _ (u : Term) (long : length (u .pattern) ≡ variables) (some : T (not (i
 
   own-full : T (noZero (u ∷ []))
   unfolding noZero
-  own-full = and (not (isZero (u .coefficient))) (noZero []) some tt
+  own-full = and-i (not (isZero (u .coefficient))) (noZero []) some tt
 
   power-term : (k : ℕ) → power variables (u ∷ []) (suc k) ≡ raised k ∷ []
   unfolding power row raised

@@ -19,7 +19,7 @@ use Rattle.algebra.specs.Held.{wordFor, wordsOf, coefficientsOf}
 use Rattle.algebra.specs.Value.{total}
 use Rattle.algebra.proofs.Numbers.Absolute.{abs-mul}
 use Rattle.algebra.proofs.Numbers.Whole.{*ℤ-assoc, +ℤ-*ℤ, one-*ℤ, +ℤ-left-comm}
-use Rattle.algebra.proofs.Numbers.Test.{and}
+use lib.Ieee.Fits.{and-i}
 use Rattle.algebra.proofs.Patterns.Laws.{times-comm, times-assoc, times-length}
 use Rattle.algebra.proofs.Patterns.Fields.{word-times}
 use Rattle.algebra.proofs.Patterns.Order.{order-times}
@@ -140,8 +140,8 @@ module _ (n : ℕ) (x y : Term) where
 
     spelled-full : (g : Counted) (l : List Counted) → Good g → Rising g l → T (noZero (map many (g ∷ l)))
     unfolding noZero
-    spelled-full g [] G R = and (not (isZero (many g .coefficient))) true (many-full g G) tt
-    spelled-full g (h ∷ l) G R = and (not (isZero (many g .coefficient))) (noZero (map many (h ∷ l))) (many-full g G) (spelled-full h l (R .0 .good) (R .1))
+    spelled-full g [] G R = and-i (not (isZero (many g .coefficient))) true (many-full g G) tt
+    spelled-full g (h ∷ l) G R = and-i (not (isZero (many g .coefficient))) (noZero (map many (h ∷ l))) (many-full g G) (spelled-full h l (R .0 .good) (R .1))
 
     spelled-long : (g : Counted) (l : List Counted) → Good g → Rising g l → Every (Long n) (map many (g ∷ l))
     spelled-long g [] G R = (G .long, tt)

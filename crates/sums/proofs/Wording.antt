@@ -32,10 +32,7 @@ small : (p q j k m : ℕ) → (j + k) * p < m → (j + k) * q < m → j * p + k 
 small p q j k m h h' = go (ltb p q) (ltb→lt p q) (nltb→le p q)
   where
     go : (b : Bool) → (T b → p < q) → (T (not b) → q ≤ p) → j * p + k * q < m
-    go true f g = let most : j * p ≤ j * q = mul-le-mul-left j (lt-le p q (f tt)) in omega (arith, most)
-      where
-        lt-le : (p q : ℕ) → p < q → p ≤ q
-        lt-le p q l = omega arith
+    go true f g = let less = f tt in let most : j * p ≤ j * q = mul-le-mul-left j (omega (arith, less)) in omega (arith, most)
     go false f g = let most : k * q ≤ k * p = mul-le-mul-left k (g tt) in omega (arith, most)
 
 -- ---- The loop.

@@ -11,7 +11,7 @@ use lib.ListN.{length, drop, getD, List·getD-eq-default}
 use lib.Seq.{drop-cons, getD-drop}
 use borrow.Author.Tests.{le-leb, leb-true, leb-false, lt-leb}
 use Rattle.algebra.specs.Limits.{variables}
-use Rattle.algebra.proofs.Numbers.Test.{and-l, and-r}
+use lib.Ieee.Fits.{and-l, and-r}
 use Rattle.text.specs.Signs.{zeroDigit, nineDigit, isDigit}
 use Rattle.text.specs.Letters.{Letter.names, Letter.nothing, letterOf}
 use Rattle.text.specs.Reader.{byteAt}

@@ -7,7 +7,8 @@ use native.Mathlib.Omega.{arith}
 use lib.Dec.{T, leb, leb→le}
 use lib.ListN.{length, drop, length-drop}
 use borrow.Author.Tests.{le-leb, lt-leb, leb-true, leb-false}
-use Rattle.algebra.proofs.Numbers.Test.{and-l, and-r, true-is}
+use lib.Ieee.Fits.{and-l, and-r}
+use lib.Ieee.Bits.{is-true}
 use Rattle.text.specs.Signs.{zeroDigit, isDigit}
 use Rattle.text.specs.Reader.{byteAt, takes, moreDigits, digitsAt}
 use Rattle.text.proofs.Byte.{decide, passes-inside, from-byte, first-byte, digit-from, digit-to}
@@ -47,7 +48,7 @@ module _ (top v b : ℕ) where
       let t : T (leb 1 v && (isDigit b && leb (v * 10 + (b - zeroDigit)) top)) = rw e tt in
       record {
         some = leb→le 1 v (search and-l);
-        digit = true-is (isDigit b) (search (and-l, and-r));
+        digit = is-true (isDigit b) (search (and-l, and-r));
         within = leb→le (v * 10 + (b - zeroDigit)) top (search and-r);
       }
 

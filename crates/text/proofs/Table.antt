@@ -11,7 +11,7 @@ use mir.Syntax.{w64}
 use mir.Val.{SFits, toZ}
 use mir.ValLaws.{toZ-pos}
 use Rattle.algebra.specs.Limits.{largestDegree, mostNodes}
-use Rattle.algebra.proofs.Numbers.Test.{and}
+use lib.Ieee.Fits.{and-i}
 use Rattle.nodes.specs.declared.Kind as declared
 use Rattle.nodes.specs.Node.{Kind, numbersOf, kindOf}
 use Rattle.text.specs.Inside.Laid.{putNode}
@@ -33,10 +33,10 @@ put-numbers table n k e h are f g w = rw (put-within table n (kindOf k) h, e, ar
 
 -- the children of node n are before it
 pub both-before : (n a b : ℕ) → a < n → b < n → T (ltb a n && ltb b n)
-both-before n a b h k = and (ltb a n) (ltb b n) (lt→ltb a n h) (lt→ltb b n k)
+both-before n a b h k = and-i (ltb a n) (ltb b n) (lt→ltb a n h) (lt→ltb b n k)
 
 pub base-before : (n a e : ℕ) → a < n → e ≤ largestDegree → T (ltb a n && leb e largestDegree)
-base-before n a e h k = and (ltb a n) (leb e largestDegree) (lt→ltb a n h) (le→leb e largestDegree k)
+base-before n a e h k = and-i (ltb a n) (leb e largestDegree) (lt→ltb a n h) (le→leb e largestDegree k)
 
 -- two numbers of a node, as the machine holds them
 pub record Two (a b : ℕ) : Type 0 where

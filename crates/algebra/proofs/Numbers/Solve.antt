@@ -13,7 +13,7 @@ use Rattle.algebra.specs.Collect.{place, insert, gather, keep, dropZeros
 use Rattle.algebra.specs.Arithmetic.{row, pairs, _⊕_, _⊗_}
 use Rattle.algebra.specs.Value.{total, patternValue, value}
 use Rattle.algebra.proofs.Numbers.Whole.{one-*ℤ, *ℤ-oner, negℤ-*ℤ}
-use Rattle.algebra.proofs.Numbers.Test.{and-l, and-r}
+use lib.Ieee.Fits.{and-l, and-r}
 use Rattle.algebra.proofs.Patterns.Order.{same-eq}
 use Rattle.algebra.proofs.Sums.Values.{collect-value, sum-value, product-value}
 

@@ -1,23 +1,7 @@
--- Tests: joined by and, joined by or, and as equations.
+-- Tests that the toolchain has no laws for: what fails is false, and alternatives in another order. (Laws of `&&` and of what holds are in `lib.Ieee.Fits` and `lib.Ieee.Bits`.)
 use mathlib.Core.Path.{_≡_, refl}
-use mathlib.Core.Bool.{Bool, true, false, _&&_, _||_}
+use mathlib.Core.Bool.{Bool, true, false, _||_}
 use lib.Dec.{T}
-
-pub and : (a b : Bool) → T a → T b → T (a && b)
-and true b h k = k
-and false b h k = h
-
-pub and-l : (a b : Bool) → T (a && b) → T a
-and-l true b h = tt
-and-l false b h = h
-
-pub and-r : (a b : Bool) → T (a && b) → T b
-and-r true b h = h
-and-r false b h = absurd h
-
-pub true-is : (b : Bool) → T b → b ≡ true
-true-is true h = refl
-true-is false h = absurd h
 
 pub false-is : (b : Bool) → (T b → ⊥) → b ≡ false
 false-is true h = absurd (h tt)

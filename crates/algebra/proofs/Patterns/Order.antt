@@ -6,7 +6,7 @@ use native.Mathlib.Omega.{arith}
 use lib.Dec.{T, eqb, eqb→eq, eqb-refl}
 use lib.ListN.{length, set, length-set}
 use Rattle.algebra.specs.Pattern.{Pattern, emptyPattern, filled, times, degree, exponent, lowered, without, same, thenBy, byPowers, order}
-use Rattle.algebra.proofs.Numbers.Test.{and, and-l, and-r}
+use lib.Ieee.Fits.{and-i, and-l, and-r}
 use Rattle.algebra.proofs.Patterns.Laws.{times-comm, degree-times, present, raised-lowered, raised-times, alone-length, without-times, filled-degree}
 use Rattle.algebra.proofs.Numbers.Compare.{Says, compare-says, compare-is, compare-eq, turn, compare-turn, compare-add}
 
@@ -15,7 +15,7 @@ use Rattle.algebra.proofs.Numbers.Compare.{Says, compare-says, compare-
 pub same-self : (p : Pattern) → T (same p p)
 unfolding same
 same-self [] = tt
-same-self (e ∷ p) = and (eqb e e) (same p p) (eqb-refl e) (same-self p)
+same-self (e ∷ p) = and-i (eqb e e) (same p p) (eqb-refl e) (same-self p)
 
 pub same-eq : (p q : Pattern) → T (same p q) → p ≡ q
 unfolding same

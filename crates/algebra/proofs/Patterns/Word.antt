@@ -11,7 +11,7 @@ use lib.Seq.{drop-cons, set-getD}
 use Rattle.algebra.specs.Limits.{variables, largestDegree}
 use Rattle.algebra.specs.Pattern.{Pattern, emptyPattern, times, degree, exponent, lowered, without, thenBy, order}
 use Rattle.algebra.specs.Word.{fieldSize, wordOf, word, exponents, isValid, Valid}
-use Rattle.algebra.proofs.Numbers.Test.{and, and-l, and-r}
+use lib.Ieee.Fits.{and-i, and-l, and-r}
 use Rattle.algebra.proofs.Patterns.Laws.{times-length, degree-times, empty-degree, alone-length, without-times, without-degree}
 use Rattle.algebra.proofs.Patterns.Fields.{Below, below-degree, fields-below, fields-length, word-lt, word-most, fields-word, word-fields-lt, field-at, place-bits, word-zero, word-alone, word-times, word-degree, order-word, word-lowered}
 
@@ -54,7 +54,7 @@ empty-valid = rw word-empty at (word-valid (emptyPattern variables) refl (omega 
 pub valid-test : (w : ℕ) → Valid w → T (isValid w)
 unfolding isValid
 valid-test w a =
-    and (eqb (word (exponents w)) w) (leb (degree (exponents w)) largestDegree)
+    and-i (eqb (word (exponents w)) w) (leb (degree (exponents w)) largestDegree)
     (rw (eq-eqb (word (exponents w)) w (a .is)) tt) (le→leb (degree (exponents w)) largestDegree (a .low))
 
 pub test-valid : (w : ℕ) → T (isValid w) → Valid w

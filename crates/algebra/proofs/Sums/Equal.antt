@@ -12,7 +12,8 @@ use Rattle.algebra.specs.Sum.{Term, term, Sum, isZero, ahead, inOrder, n
 use Rattle.algebra.specs.Collect.{gather, collect, occurs}
 use Rattle.algebra.specs.Value.{total, onlyIf, coefficientIn, coefficient}
 use Rattle.algebra.proofs.Numbers.Whole.{+ℤ-cancel}
-use Rattle.algebra.proofs.Numbers.Test.{true-is, false-is}
+use lib.Ieee.Bits.{is-true}
+use Rattle.algebra.proofs.Numbers.Test.{false-is}
 use Rattle.algebra.proofs.Patterns.Order.{same-self, same-eq, order-eq}
 use Rattle.algebra.proofs.Sums.Total.{Additive, gather-total, collect-total}
 use Rattle.algebra.proofs.Sums.Every.{Every, Long}
@@ -52,7 +53,7 @@ pub record Alike (s t : Sum) : Type 0 where
 pub first-coefficient : (t : Term) (s : Sum) → T (inOrder (t ∷ s)) → coefficient (t ∷ s) (t .pattern) ≡ t .coefficient
 unfolding coefficient total onlyIf
 first-coefficient t s h =
-    rw (true-is (same (t .pattern) (t .pattern)) (same-self (t .pattern)), absent-coefficient (t .pattern) s (ahead-absent (t .pattern) s (order-tail t s h) (order-head t s h)))
+    rw (is-true (same (t .pattern) (t .pattern)) (same-self (t .pattern)), absent-coefficient (t .pattern) s (ahead-absent (t .pattern) s (order-tail t s h) (order-head t s h)))
     (+ℤ-idr (t .coefficient))
 
 or-rest : (a b c : Bool) → (T a → b ≡ c) → a || b ≡ a || c → b ≡ c
@@ -108,7 +109,7 @@ full-occurs r (t ∷ s) h k = go (same r (t .pattern)) refl (full-occurs r s (or
     go : (b : Bool) → same r (t .pattern) ≡ b → occurs r s ≡ not (isZero (coefficient s r)) → occurs r (t ∷ s) ≡ not (isZero (coefficient (t ∷ s) r))
     go true e f =
         let p : r ≡ t .pattern = same-eq r (t .pattern) (rw e tt) in
-        ap (λ q. occurs q (t ∷ s)) p ∙ occurs-first t s ∙ sym (true-is _ (full-head t s k)) ∙ ap (λ c. not (isZero c)) (sym (ap (coefficient (t ∷ s)) p ∙ first-coefficient t s h))
+        ap (λ q. occurs q (t ∷ s)) p ∙ occurs-first t s ∙ sym (is-true _ (full-head t s k)) ∙ ap (λ c. not (isZero c)) (sym (ap (coefficient (t ∷ s)) p ∙ first-coefficient t s h))
     go false e f =
         occurs-cons r t s ∙ ap (λ b. b || occurs r s) e ∙ f
         ∙ ap (λ c. not (isZero c)) (sym (coefficient-skip r t s e))

@@ -10,7 +10,7 @@ use Rattle.algebra.specs.Pattern.{Pattern, times, degree, order}
 use Rattle.algebra.specs.Sum.{Term, Sum, isZero, inVariables, degreeOf}
 use Rattle.algebra.specs.Collect.{place, insert, gather, keep, dropZeros, collect}
 use Rattle.algebra.specs.Arithmetic.{row, pairs}
-use Rattle.algebra.proofs.Numbers.Test.{and, and-l, and-r}
+use lib.Ieee.Fits.{and-i, and-l, and-r}
 
 abbrev pub Every : (Pattern → Type 0) → List Term → Type 0
 Every P [] = Unit {0}
@@ -81,7 +81,7 @@ variables-every n (t ∷ s) h =
 pub every-variables : (n : ℕ) (s : Sum) → Every (Long n) s → T (inVariables n s)
 unfolding inVariables
 every-variables n [] h = tt
-every-variables n (t ∷ s) h = and (eqb (length (t .pattern)) n) (inVariables n s) (rw (h .0) (eqb-refl n)) (every-variables n s (h .1))
+every-variables n (t ∷ s) h = and-i (eqb (length (t .pattern)) n) (inVariables n s) (rw (h .0) (eqb-refl n)) (every-variables n s (h .1))
 
 abbrev pub UpTo : ℕ → Pattern → Type 0
 UpTo m p = degree p ≤ m

@@ -11,7 +11,8 @@ use Rattle.algebra.specs.Pattern.{Pattern, same, order}
 use Rattle.algebra.specs.Sum.{Term, Sum, isZero, ahead, inOrder}
 use Rattle.algebra.specs.Collect.{place, insert, gather, keep, dropZeros, collect, occurs, countNew, spread}
 use Rattle.algebra.specs.Value.{total, onlyIf, coefficient}
-use Rattle.algebra.proofs.Numbers.Test.{true-is, false-is, or-swap}
+use lib.Ieee.Bits.{is-true}
+use Rattle.algebra.proofs.Numbers.Test.{false-is, or-swap}
 use Rattle.algebra.proofs.Patterns.Order.{same-self, same-eq, order-self, order-eq}
 use Rattle.algebra.proofs.Sums.Ordered.{before-is, ahead-trans, order-head, order-tail, gather-order}
 
@@ -39,7 +40,7 @@ occurs-cons r t l = refl
 
 pub occurs-first : (t : Term) (l : List Term) → occurs (t .pattern) (t ∷ l) ≡ true
 unfolding occurs
-occurs-first t l = ap (λ b. b || occurs (t .pattern) l) (true-is (same (t .pattern) (t .pattern)) (same-self (t .pattern)))
+occurs-first t l = ap (λ b. b || occurs (t .pattern) l) (is-true (same (t .pattern) (t .pattern)) (same-self (t .pattern)))
 
 pub ahead-absent : (p : Pattern) (s : Sum) → T (inOrder s) → T (ahead p s) → occurs p s ≡ false
 unfolding occurs ahead
@@ -87,7 +88,7 @@ place-length : (o : Ordering) (t u : Term) (s after : Sum) → order (t .pattern
     → length after ≡ countNew (occurs (t .pattern) s) (length s) → length (place o t u s after) ≡ countNew (occurs (t .pattern) (u ∷ s)) (suc (length s))
 unfolding place countNew
 place-length Ordering·lt t u s after e f h = rw (f refl)
-place-length Ordering·eq t u s after e f h = ap (λ b. countNew b (suc (length s))) (sym (true-is (occurs (t .pattern) (u ∷ s)) here))
+place-length Ordering·eq t u s after e f h = ap (λ b. countNew b (suc (length s))) (sym (is-true (occurs (t .pattern) (u ∷ s)) here))
   where
     here : T (occurs (t .pattern) (u ∷ s))
     here = rw (order-eq (t .pattern) (u .pattern) e, occurs-first u s) tt

@@ -9,7 +9,8 @@ use Rattle.algebra.specs.Pattern.{Pattern, times, order}
 use Rattle.algebra.specs.Sum.{Term, term, Sum, isZero, isBefore, ahead, inOrder, noZero, inVariables, ordered}
 use Rattle.algebra.specs.Arithmetic.{timesTerm, row}
 use Rattle.algebra.specs.Collect.{place, insert, gather, keep, dropZeros, collect}
-use Rattle.algebra.proofs.Numbers.Test.{and, and-l, and-r, false-is}
+use lib.Ieee.Fits.{and-i, and-l, and-r}
+use Rattle.algebra.proofs.Numbers.Test.{false-is}
 use Rattle.algebra.proofs.Numbers.Compare.{turn}
 use Rattle.algebra.proofs.Patterns.Order.{order-turn, order-trans, order-times}
 use Rattle.algebra.proofs.Sums.Every.{Every, Long, variables-every, every-variables, collect-every}
@@ -47,12 +48,12 @@ ordered-variables n s h = and-r (inOrder s && noZero s) (inVariables n s) h
 
 pub whole : (n : ℕ) (s : Sum) → Parts n s → T (ordered n s)
 unfolding ordered
-whole n s P = and (inOrder s && noZero s) (inVariables n s) (and (inOrder s) (noZero s) (P .strict) (P .full)) (every-variables n s (P .long))
+whole n s P = and-i (inOrder s && noZero s) (inVariables n s) (and-i (inOrder s) (noZero s) (P .strict) (P .full)) (every-variables n s (P .long))
 
 module _ (t : Term) (s : Sum) where
   pub order-cons : T (ahead (t .pattern) s) → T (inOrder s) → T (inOrder (t ∷ s))
   unfolding inOrder
-  order-cons h k = and (ahead (t .pattern) s) (inOrder s) h k
+  order-cons h k = and-i (ahead (t .pattern) s) (inOrder s) h k
 
   pub order-head : T (inOrder (t ∷ s)) → T (ahead (t .pattern) s)
   unfolding inOrder
@@ -143,7 +144,7 @@ drop-order (t ∷ s) h = keep-order (isZero (t .coefficient)) t (dropZeros s) (d
 keep-full : (b : Bool) (t : Term) (s : Sum) → isZero (t .coefficient) ≡ b → T (noZero s) → T (noZero (keep b t s))
 unfolding keep noZero
 keep-full true t s e h = h
-keep-full false t s e h = and (not (isZero (t .coefficient))) (noZero s) (rw e tt) h
+keep-full false t s e h = and-i (not (isZero (t .coefficient))) (noZero s) (rw e tt) h
 
 pub drop-full : (s : Sum) → T (noZero (dropZeros s))
 unfolding dropZeros

@@ -13,7 +13,7 @@ use Rattle.algebra.specs.Sum.{Term, term, Sum, isZero, ahead, inOrder, n
 use Rattle.algebra.specs.Collect.{keep}
 use Rattle.algebra.specs.Slope.{slopeTerm, slope}
 use Rattle.algebra.specs.Value.{total}
-use Rattle.algebra.proofs.Numbers.Test.{and}
+use lib.Ieee.Fits.{and-i}
 use Rattle.algebra.proofs.Numbers.Absolute.{some-size, times-some}
 use Rattle.algebra.proofs.Patterns.Order.{order-lowered}
 use Rattle.algebra.proofs.Sums.Total.{Additive}
@@ -103,7 +103,7 @@ slope-full v (t ∷ s) h = step (lacks v t) refl (slope-full v s (full-tail t s 
     step : (b : Bool) → lacks v t ≡ b → T (noZero (slopeTerms v s)) → T (noZero (keep b (slopeTerm v t) (slopeTerms v s)))
     step true e l = unfold keep in l
     step false e l =
-        unfold keep noZero in and (not (isZero (slopeTerm v t .coefficient))) (noZero (slopeTerms v s))
+        unfold keep noZero in and-i (not (isZero (slopeTerm v t .coefficient))) (noZero (slopeTerms v s))
         (times-some (t .coefficient) (pos (exponent v (t .pattern))) (full-head t s h) (some-size (pos (exponent v (t .pattern))) (eqb-false (exponent v (t .pattern)) 0 e))) l
 
 -- ---- The slope is these terms.

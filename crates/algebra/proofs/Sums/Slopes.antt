@@ -18,7 +18,8 @@ use Rattle.algebra.proofs.Numbers.Whole.{*ℤ-assoc, *ℤ-+ℤ, +ℤ-*�
 use Rattle.algebra.proofs.Numbers.Absolute.{abs-mul}
 use Rattle.algebra.proofs.Patterns.Laws.{times-comm, set-degree, exponent-degree, raised-exponent, lowered-raised, raised-lowered, exponent-times, lowered-times, empty-exponent}
 use Rattle.algebra.proofs.Patterns.Order.{same-self, same-eq}
-use Rattle.algebra.proofs.Numbers.Test.{true-is, false-is}
+use lib.Ieee.Bits.{is-true}
+use Rattle.algebra.proofs.Numbers.Test.{false-is}
 use Rattle.algebra.proofs.Sums.Total.{Additive, total-ext, total-map, total-append, total-plus, total-times, collect-total}
 use Rattle.algebra.proofs.Sums.Every.{Every, Long, UpTo, degree-every, every-degree, collect-every}
 use Rattle.algebra.proofs.Sums.Ordered.{parts, collect-ordered}
@@ -64,7 +65,7 @@ module _ (v : ℕ) (c : ℤ) (p r : Pattern) where
           let w : raised v r ≡ p = same-eq (raised v r) p (rw k tt) in
           ap (λ q. onlyIf (same r (lowered v q)) (c *ℤ pos (exponent v q))) (sym w)
           ∙ ap₂ (λ q n. onlyIf (same r q) (c *ℤ pos n)) (lowered-raised v r h) (raised-exponent v r h)
-          ∙ ap (λ b. onlyIf b (c *ℤ pos (suc (exponent v r)))) (true-is (same r r) (same-self r))
+          ∙ ap (λ b. onlyIf b (c *ℤ pos (suc (exponent v r)))) (is-true (same r r) (same-self r))
           ∙ unfold onlyIf in *ℤ-comm c (pos (suc (exponent v r)))
 
 pub slope-coefficient : (v : ℕ) (s : Sum) (r : Pattern) → v < length r → coefficient (slope v s) r ≡ pos (suc (exponent v r)) *ℤ coefficient s (raised v r)

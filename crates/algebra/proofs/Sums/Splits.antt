@@ -1,6 +1,6 @@
 -- The coefficient of a product at a pattern is the sum, over all ways to split the pattern in two, of both coefficients multiplied.
 use mathlib.Core.Path.{_≡_, refl, sym, _∙_, ap, ap₂}
-use mathlib.Core.Bool.{Bool, true, false, _&&_}
+use mathlib.Core.Bool.{Bool, true, false, _&&_, and-true}
 use mathlib.Core.List.{List, [], _∷_}
 use Prim.Native.Nat.{ℕ, zero, suc, _+_, _≤_, _<_}
 use native.Mathlib.Omega.{arith}
@@ -101,10 +101,6 @@ module _ (x y : ℕ) (c : ℤ) where
   at-end i j e =
       ap (λ b. onlyIf (eqb i x && b) c) (eq-eqb j y e)
       ∙ ap (λ b. onlyIf b c) (and-true (eqb i x) ∙ same-test i x (i + j) (x + y) (λ h. omega arith) (λ h. omega arith))
-    where
-      and-true : (a : Bool) → a && true ≡ a
-      and-true true = refl
-      and-true false = refl
 
   one-split : (i j : ℕ) → j ≤ y → splitNumber hit i j ≡ onlyIf (eqb (i + j) (x + y)) c
   unfolding splitNumber onlyIf
