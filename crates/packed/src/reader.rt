@@ -42,6 +42,7 @@ impl<'a> Reader<'a> {
 // ---- The work.
 
 // The number at a place. One byte, or two, are the usual case, and are seen here.
+// There are two calls of `read_number` for speed: what is called at one place only is compiled into it, and with all of `read_number` in it this function would no longer go into the loops that read.
 fn read_short(bytes: &[u8], at: usize) -> Read
     ensures { λ r. ⌜ itemOf r ≡ readNumber (now (bytes .entry)) at ⌝ }
 {
@@ -52,14 +53,15 @@ fn read_short(bytes: &[u8], at: usize) -> Read
         }
         if at + 1 < bytes.len() {
             let high = bytes[at + 1] as u64;
-            if high < 128 {
-                // A last group of 0 is at fault.
-                if high > 0 {
-                    return Read::Value(low - 128 + 128 * high, at + 2);
-                }
+            if high >= 128 {
+                return numbers::read_number(bytes, at);
+            }
+            if high > 0 {
+                return Read::Value(low - 128 + 128 * high, at + 2);
             }
         }
     }
+    // Cut, or at fault: a last group of 0.
     numbers::read_number(bytes, at)
 }
 

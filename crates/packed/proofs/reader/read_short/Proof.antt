@@ -31,23 +31,29 @@ shared-slice-read-high c = search needs
 cast-high : tie.Need-cast-high
 cast-high c = record { fits = omega (arith, c .shared-slice-known3 .given (c .before .before .before .before .before .before .args .at + 1)) }
 
-mul-t19 : tie.Need-mul-t19
-mul-t19 c = record { fits = omega (arith, c .before .if4 .taken) }
-
-add-t20 : tie.Need-add-t20
-add-t20 c = record { fits = omega (arith, c .before .if4 .taken, c .before .before .before .before .before .shared-slice-known2 .given (c .before .before .before .before .before .before .before .before .args .at)) }
-
-add-t21 : tie.Need-add-t21
-add-t21 c = search needs
-
-returns-2 : tie.Need-returns-2
-returns-2 c = sym (number-pair _ _ (c .before .before .before .if3 .taken) (c .before .before .before .before .if2 .left) (c .if5 .taken) (c .before .if4 .taken))
-
 read-number-requires : tie.Need-read-number-requires
 read-number-requires c κs = search needs
 
+returns-2 : tie.Need-returns-2
+returns-2 c = search needs
+
+mul-t18 : tie.Need-mul-t18
+mul-t18 c = search needs
+
+add-t19 : tie.Need-add-t19
+add-t19 c = record { fits = omega (arith, c .before .if4 .left, c .before .before .before .before .before .shared-slice-known2 .given (c .before .before .before .before .before .before .before .before .args .at)) }
+
+add-t20 : tie.Need-add-t20
+add-t20 c = search needs
+
 returns-3 : tie.Need-returns-3
-returns-3 c = search needs
+returns-3 c = sym (number-pair _ _ (c .before .before .before .if3 .taken) (c .before .before .before .before .if2 .left) (c .if5 .taken) (c .before .if4 .left))
+
+read-number-requires-2 : tie.Need-read-number-requires-2
+read-number-requires-2 c κs = search needs
+
+returns-4 : tie.Need-returns-4
+returns-4 c = search needs
 
 pub read-short-spec : {M : Type 1} → statement M
 read-short-spec =
@@ -61,9 +67,11 @@ read-short-spec =
     add-high
     shared-slice-read-high
     cast-high
-    mul-t19
-    add-t20
-    add-t21
-    returns-2
     read-number-requires
-    returns-3)
+    returns-2
+    mul-t18
+    add-t19
+    add-t20
+    returns-3
+    read-number-requires-2
+    returns-4)
