@@ -1,5 +1,6 @@
 -- Theorems across the operations.
 pub mod Becoming
+pub mod Spellings
 pub mod Margins
 pub mod FromTexts
 pub mod Cases

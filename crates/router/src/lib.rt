@@ -125,13 +125,19 @@ pub fn estimate(sum: &[u8], readings: &[u8], tolerances: &[u8], answer: &mut [u8
     };
     let n = number as usize;
     if n <= packed::FEW_TERMS {
-        let mut fp = [0u64; packed::FEW_TERMS];
-        let mut fc = [0i64; packed::FEW_TERMS];
-        let taken = packed::take_whole(sum, next, n, &mut fp, &mut fc);
+        let mut few = [0u64; packed::FEW_TERMS];
+        let mut few_coefficients = [0i64; packed::FEW_TERMS];
+        let taken = packed::take_whole(sum, next, n, &mut few, &mut few_coefficients);
         let Answer::Done(_) = taken else {
             return taken;
         };
-        return estimate_terms(&fp[0..n], &fc[0..n], readings, tolerances, answer);
+        return estimate_terms(
+            &few[0..n],
+            &few_coefficients[0..n],
+            readings,
+            tolerances,
+            answer,
+        );
     }
     let mut sp = [0u64; MOST_TERMS];
     let mut sc = [0i64; MOST_TERMS];
