@@ -1,5 +1,5 @@
 // Packed sums: read item by item, unpacked into two lent areas, and packed from them.
-// Begin with specs/Packed.antt and specs/ReadSum.antt, then with `unpack` and `pack`; the reader is in `reader`, and reads terms for `items` and `fast`.
+// Begin with specs/Packed.antt and specs/ReadSum.antt, then with `unpack` and `pack`. `reader` has the packed reader, through which `items` and `fast` read terms.
 use algebra::MOST_TERMS;
 use algebra::Pattern;
 use answers::Answer;
