@@ -14,15 +14,11 @@ use Rattle.algebra.specs.Substitute.{rows, pairRows, substitute, pairDeg
 
 -- ---- A case is a count, and what it comes to.
 
-record Case : Type 0 where
-  counted : ℕ
-  comes-to : ℕ
+data Case : Type 0 where
+  counts : ℕ → ℕ → Case
 
 abbrev Says : Case → Type 0
-Says c = c .counted ≡ c .comes-to
-
-counts : ℕ → ℕ → Case
-counts m n = record { counted = m; comes-to = n }
+Says (counts m n) = m ≡ n
 
 -- ---- Short names for the table. `unfolding computing` opens every definition that it computes with.
 
@@ -68,7 +64,7 @@ bent = number (pos 1) ⊕ number (pos 2) ⊗ a ⊕ minus (number (pos 2) ⊗ a t
 -- ---- The table.
 
 table : List Case
-unfolding counts square bent _to_ minus number a b x
+unfolding square bent _to_ minus number a b x
 table =
     -- 4 · (2a)^60 has the largest weight
     counts (weight (number (pos 4) ⊗ (number (pos 2) ⊗ a) to 60)) largestWeight

@@ -87,9 +87,9 @@ pub data Case : Type 0 where
   -- the margin that a typed formula would have as it is typed
   asTyped : String → List ℤ → List ℤ → ℕ → Case
 
-abbrev pub isGood : {A : Type 0} → Judged A → Bool
-isGood (good a) = true
-isGood (fails refusal place) = false
+abbrev pub accepted : {A : Type 0} → Judged A → Bool
+accepted (good a) = true
+accepted (fails refusal place) = false
 
 abbrev pub termsIn : Judged Sum → Judged ℕ
 termsIn (good s) = good (length s)
@@ -115,14 +115,14 @@ abbrev pub estimated : Made → List ℤ → List ℤ → Judged Estimate
 estimated m rs ts = andThen (made m) (λ bytes. judgeEstimate bytes (eight rs) (eight ts))
 
 abbrev pub Says : Case → Type 0
-Says (is m text) = (made m ≡ made (typed text)) × (isGood (made m) ≡ true)
+Says (is m text) = (made m ≡ made (typed text)) × (accepted (made m) ≡ true)
 Says (packs m bytes) = made m ≡ good bytes
 Says (has m n) = termsIn (unpacked m) ≡ good n
 Says (refuses m refusal place) = made m ≡ fails refusal place
 Says (estimates m rs ts gives) = numbersIn (estimated m rs ts) ≡ gives
 Says (reached m rs ts xs) =
     (isWithin (filled xs) (filled rs) (unsigned (filled ts)) ≡ true)
-    × ((valueAt (unpacked m) (filled xs) ≡ together (estimated m rs ts)) × (isGood (estimated m rs ts) ≡ true))
+    × ((valueAt (unpacked m) (filled xs) ≡ together (estimated m rs ts)) × (accepted (estimated m rs ts) ≡ true))
 Says (groups z n) = length (numberBytes (code z)) ≡ n
 Says (asTyped text rs ts m) = treeMargin (judgeText (quoted text)) rs ts ≡ m
 
