@@ -1,2 +1,2 @@
--- What only contracts between the library's own functions name: no promise to a caller rests on it.
+-- What contracts of helpers and of private functions name, and no other: no promise of an operation rests on it.
 pub mod Laid
