@@ -4,26 +4,28 @@ use mathlib.Core.List.{List, [], _∷_}
 use Prim.Native.Nat.{ℕ}
 use lib.IntN.{ℤ, pos, negsuc}
 use lib.ListN.{length}
-use Rattle.answers.proofs.Tables.{Each, _also_}
+use Rattle.answers.proofs.Tables.{_also_}
+use Rattle.answers.specs.Promised.{Each}
 use Rattle.algebra.specs.Limits.{variables, largestWeight}
 use Rattle.algebra.specs.Pattern.{times, degree, same, thenBy, byPowers, order}
 use Rattle.algebra.specs.Sum.{Sum, degreeOf, weight}
-use Rattle.algebra.specs.Collect.{place, insert, gather, keep, dropZeros, collect, occurs, countNew, spread}
+use Rattle.algebra.specs.Collect.{settle, insert, gather, keep, dropZeros, collect, occurs, countNew, spread}
 use Rattle.algebra.specs.Arithmetic.{integer, variable, row, pairs, _⊕_, sumSpread, _⊗_, productSpread, power, powerSpread}
+use Rattle.algebra.specs.Margin.{patternSize, size, unsigned, raisedBy, margin}
 use Rattle.algebra.specs.Substitute.{rows, pairRows, substitute, pairDegree, pairWeight, largestPower, pairSpread}
 
 -- ---- A case is a count, and what it comes to.
 
-data Case : Type 0 where
+pub data Case : Type 0 where
   counts : ℕ → ℕ → Case
 
-abbrev Says : Case → Type 0
+abbrev pub Says : Case → Type 0
 Says (counts m n) = m ≡ n
 
 -- ---- Short names for the table. `unfolding computing` opens every definition that it computes with.
 
 computing : ℕ
-unfolding times degree same thenBy byPowers order degreeOf weight place insert gather keep dropZeros collect occurs countNew spread integer variable row pairs _⊕_ sumSpread _⊗_ productSpread power powerSpread rows pairRows substitute pairDegree pairWeight largestPower pairSpread
+unfolding times degree same thenBy byPowers order degreeOf weight settle insert gather keep dropZeros collect occurs countNew spread integer variable row pairs _⊕_ sumSpread _⊗_ productSpread power powerSpread rows pairRows substitute pairDegree pairWeight largestPower pairSpread patternSize size unsigned raisedBy margin
 computing = 0
 
 x : ℕ → Sum
@@ -63,7 +65,7 @@ bent = number (pos 1) ⊕ number (pos 2) ⊗ a ⊕ minus (number (pos 2) ⊗ a t
 
 -- ---- The table.
 
-table : List Case
+pub table : List Case
 unfolding square bent _to_ minus number a b x
 table =
     -- 4 · (2a)^60 has the largest weight
@@ -79,8 +81,10 @@ table =
     -- 1 + 2a − 2a² put for a in a²: its square has five patterns, of which a² cancels
     ∷ counts (pairSpread variables 0 bent (a to 2)) 5
     ∷ counts (length (substitute variables 0 bent (a to 2))) 4
+    -- the margin of (a + b)² − b² where a is 10 within 1 and b is 3 within 2; with like terms apart it would be 103
+    ∷ counts (margin square (pos 10 ∷ pos 3 ∷ []) (1 ∷ 2 ∷ [])) 71
     ∷ []
 
-cases-hold : Each Says table
+pub cases-hold : Each Says table
 unfolding table
-cases-hold = refl also refl also refl also refl also refl also refl also refl also refl also refl also tt
+cases-hold = refl also refl also refl also refl also refl also refl also refl also refl also refl also refl also tt

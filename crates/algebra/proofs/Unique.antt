@@ -1,8 +1,9 @@
 -- Each public function's contract leaves one outcome, as its caller sees it: the result itself, not only what is said of it.
 use mathlib.Core.Path.{_≡_, refl, ap, ap₂}
 use Prim.Native.Nat.{ℕ}
-use Rattle.answers.proofs.Outcomes.{One, same}
-use Rattle.algebra.specs.Standing.{standing}
+use Rattle.answers.proofs.Outcomes.{same}
+use Rattle.answers.specs.Promised.{One}
+use Rattle.algebra.specs.Inside.Standing.{standing}
 use Rattle.algebra.specs.declared.Pattern.{Pattern}
 use Rattle.algebra.specs.declared.Step.{Step}
 use Rattle.algebra.specs.declared.Standing.{Standing}

@@ -15,8 +15,8 @@ unfoldable pub variable : ℕ → ℕ → Sum
 variable n v = term (pos 1) (set (emptyPattern n) v 1) ∷ []
 
 -- the number 1 written out; it is integer n 1
-abbrev pub unit : ℕ → Sum
-unit n = term (pos 1) (emptyPattern n) ∷ []
+abbrev pub oneSum : ℕ → Sum
+oneSum n = term (pos 1) (emptyPattern n) ∷ []
 
 infixl 6 _⊕_
 infixl 7 _⊗_
@@ -48,7 +48,7 @@ productSpread s t = spread (pairs s t)
 
 -- exponent 0 gives 1 and exponent 1 the base; otherwise it multiplies by the base again and again
 unfoldable pub power : ℕ → Sum → ℕ → Sum
-power n s zero = unit n
+power n s zero = oneSum n
 power n s (suc zero) = s
 power n s (suc (suc e)) = power n s (suc e) ⊗ s
 

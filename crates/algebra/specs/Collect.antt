@@ -7,15 +7,15 @@ use Rattle.algebra.specs.Pattern.{Pattern, same, order}
 use Rattle.algebra.specs.Sum.{Term, term, Sum, isZero}
 
 -- t goes before u, adds to u, or goes somewhere after u, by how their patterns stand; s is what follows u, and `after` is s with t
-unfoldable pub place : Ordering → Term → Term → Sum → Sum → Sum
-place Ordering·lt t u s after = t ∷ u ∷ s
-place Ordering·eq t u s after = term (t .coefficient +ℤ u .coefficient) (u .pattern) ∷ s
-place Ordering·gt t u s after = u ∷ after
+unfoldable pub settle : Ordering → Term → Term → Sum → Sum → Sum
+settle Ordering·lt t u s after = t ∷ u ∷ s
+settle Ordering·eq t u s after = term (t .coefficient +ℤ u .coefficient) (u .pattern) ∷ s
+settle Ordering·gt t u s after = u ∷ after
 
 -- a term put into a sum that is in order; a coefficient that becomes 0 stays
 unfoldable pub insert : Term → Sum → Sum
 insert t [] = t ∷ []
-insert t (u ∷ s) = let after = insert t s in place (order (t .pattern) (u .pattern)) t u s after
+insert t (u ∷ s) = let after = insert t s in settle (order (t .pattern) (u .pattern)) t u s after
 
 -- like terms collected, in order, and nothing dropped
 unfoldable pub gather : List Term → Sum

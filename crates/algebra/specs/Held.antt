@@ -3,17 +3,11 @@ use mathlib.Core.List.{List, map}
 use Prim.Native.Nat.{ℕ}
 use lib.IntN.{ℤ}
 use lib.ListN.{take}
-use Rattle.algebra.specs.Limits.{variables}
-use Rattle.algebra.specs.Pattern.{Pattern, filled}
 use Rattle.algebra.specs.Sum.{Term, Sum}
 use Rattle.algebra.specs.Word.{word, terms}
 
--- the word of a pattern; a variable that it lacks has power 0
-abbrev pub wordFor : Pattern → ℕ
-wordFor p = word (filled variables p)
-
 abbrev pub wordsOf : Sum → List ℕ
-wordsOf s = map (λ (t : Term). wordFor (t .pattern)) s
+wordsOf s = map (λ (t : Term). word (t .pattern)) s
 
 abbrev pub coefficientsOf : Sum → List ℤ
 coefficientsOf s = map (λ (t : Term). t .coefficient) s

@@ -1,3 +1,5 @@
 -- What contracts of helpers and of private functions name, and no other: no promise of an operation rests on it.
 pub mod Rank
 pub mod Either
+pub mod Standing
+pub mod Filled

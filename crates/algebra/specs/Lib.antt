@@ -10,5 +10,4 @@ pub mod Margin
 pub mod Word
 pub mod Held
 pub mod Accepted
-pub mod Standing
 pub mod Inside

@@ -17,6 +17,6 @@ largestWeight = 2 ^ 62
 abbrev pub mostNodes : ℕ
 mostNodes = 64
 
--- the places of a work area: 128 for each node
+-- the places of a work area: 128 for each node, 8,192 in all
 abbrev pub workPlaces : ℕ
 workPlaces = mostTerms * mostNodes

@@ -1,10 +1,10 @@
 -- A power pattern is the list of its exponents, in the variables' order. Nothing here fixes how many variables there are.
 -- (A `let` in a definition changes nothing: the checker computes what it binds only where it is needed.)
 use mathlib.Core.Bool.{Bool, true, false, _&&_}
-use mathlib.Core.List.{List, [], _∷_, _++_}
+use mathlib.Core.List.{List, [], _∷_}
 use Prim.Native.Nat.{ℕ, suc, _+_, _-_, compare, Ordering, Ordering·lt, Ordering·eq, Ordering·gt}
 use lib.Dec.{eqb}
-use lib.ListN.{length, getD, set, replicate}
+use lib.ListN.{getD, set, replicate}
 
 abbrev pub Pattern : Type 0
 Pattern = List ℕ
@@ -12,10 +12,6 @@ Pattern = List ℕ
 -- no power of any of n variables
 abbrev pub emptyPattern : ℕ → Pattern
 emptyPattern n = replicate n 0
-
--- the exponents p, and 0 for those of n variables that p lacks
-abbrev pub filled : ℕ → Pattern → Pattern
-filled n p = p ++ emptyPattern (n - length p)
 
 -- two patterns multiply by adding exponents; one that a pattern lacks counts as 0
 unfoldable pub times : Pattern → Pattern → Pattern

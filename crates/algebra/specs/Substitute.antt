@@ -5,7 +5,7 @@ use lib.IntN.{ℤ, natAbs}
 use Rattle.algebra.specs.Pattern.{Pattern, degree, exponent, without}
 use Rattle.algebra.specs.Sum.{Term, term, Sum, degreeOf, weight}
 use Rattle.algebra.specs.Collect.{collect, spread}
-use Rattle.algebra.specs.Arithmetic.{unit, row, _⊗_, power, powerSpread}
+use Rattle.algebra.specs.Arithmetic.{oneSum, row, _⊗_, power, powerSpread}
 use Rattle.algebra.specs.Value.{value}
 
 -- a row for each term: the term with only its other exponents, times each term of its factor
@@ -58,8 +58,8 @@ others (put S ∷ ws) (e ∷ p) = 0 ∷ others ws p
 
 -- the powers of the sums that are put, multiplied
 unfoldable pub putFactor : ℕ → List Put → Pattern → Sum
-putFactor n [] p = unit n
-putFactor n (w ∷ ws) [] = unit n
+putFactor n [] p = oneSum n
+putFactor n (w ∷ ws) [] = oneSum n
 putFactor n (kept ∷ ws) (e ∷ p) = putFactor n ws p
 putFactor n (put S ∷ ws) (e ∷ p) = power n S e ⊗ putFactor n ws p
 

@@ -1,6 +1,6 @@
 -- What a sum says: its value at whole numbers, and its coefficient at a pattern. Both are defined for any list of terms.
 use mathlib.Core.Bool.{Bool, true, false}
-use mathlib.Core.List.{List, [], _∷_}
+use mathlib.Core.List.{List, [], _∷_, _++_, map}
 use Prim.Native.Nat.{ℕ, zero, suc}
 use lib.IntN.{ℤ, pos, _+ℤ_, _*ℤ_, pow}
 use Rattle.algebra.specs.Pattern.{Pattern, same}
@@ -34,14 +34,24 @@ coefficientIn r t = onlyIf (same r (t .pattern)) (t .coefficient)
 unfoldable pub coefficient : List Term → Pattern → ℤ
 coefficient s r = total (coefficientIn r) s
 
--- ---- All ways to split a pattern in two: the product's coefficients are sums over them.
+-- ---- All ways to split a pattern in two: a product's coefficients are sums over them.
 
--- f added up over i, j; then i - 1, j + 1; and so on down to 0, i + j
-unfoldable pub splitNumber : (ℕ → ℕ → ℤ) → ℕ → ℕ → ℤ
-splitNumber f zero j = f zero j
-splitNumber f (suc i) j = f (suc i) j +ℤ splitNumber f i (suc j)
+-- i and j; then i - 1 and j + 1; and so on down to 0 and i + j
+unfoldable pub numberSplits : ℕ → ℕ → List (ℕ × ℕ)
+numberSplits zero j = (zero, j) ∷ []
+numberSplits (suc i) j = (suc i, j) ∷ numberSplits i (suc j)
 
--- f p q added up over all patterns p and q, each as long as r, whose product is r
-unfoldable pub splitPattern : (Pattern → Pattern → ℤ) → Pattern → ℤ
-splitPattern f [] = f [] []
-splitPattern f (e ∷ r) = splitNumber (λ i j. splitPattern (λ p q. f (i ∷ p) (j ∷ q)) r) e 0
+-- each two numbers put before each two patterns
+unfoldable pub eachBefore : List (ℕ × ℕ) → List (Pattern × Pattern) → List (Pattern × Pattern)
+eachBefore [] rest = []
+eachBefore (n ∷ ns) rest = map (λ (s : Pattern × Pattern). (n .0 ∷ s .0, n .1 ∷ s .1)) rest ++ eachBefore ns rest
+
+-- all patterns p and q, each as long as r, whose product is r
+unfoldable pub splits : Pattern → List (Pattern × Pattern)
+splits [] = ([], []) ∷ []
+splits (e ∷ r) = eachBefore (numberSplits e 0) (splits r)
+
+-- f p q added up over a list of such p and q
+unfoldable pub overSplits : (Pattern → Pattern → ℤ) → List (Pattern × Pattern) → ℤ
+overSplits f [] = pos 0
+overSplits f (s ∷ ss) = f (s .0) (s .1) +ℤ overSplits f ss

@@ -8,7 +8,7 @@ ghost use Rattle.algebra.specs.Inside.Either.{either};
 ghost use Rattle.algebra.specs.Pattern.{emptyPattern, times, degree, exponent, lowered, without, order};
 ghost use Rattle.algebra.specs.Word.{word, exponents, Valid};
 ghost use Rattle.algebra.specs.Inside.Rank.{rankOf, wordAt};
-ghost use Rattle.algebra.specs.Standing.{standing};
+ghost use Rattle.algebra.specs.Inside.Standing.{standing};
 
 // The limits of a sum and of a formula. (Those of a pattern are the pattern's own.)
 pub const MOST_TERMS: usize = 128;

@@ -1,13 +1,16 @@
 -- The number that a C host gets: it does not run over, and the host can take it apart.
-use mathlib.Core.Path.{_≡_, sym, ap, ap₂}
-use Prim.Native.Nat.{ℕ, _+_, _*_, _^_, _≤_, _<_}
+use mathlib.Core.Path.{_≡_, refl, sym, _∙_, ap, ap₂}
+use mathlib.Core.Bool.{Bool, true, false}
+use Prim.Native.Nat.{ℕ, _+_, _*_, _^_, _/_, _%_, _≤_, _<_}
 use native.Mathlib.Omega.{arith}
 use native.Mathlib.Decide.{decLt}
 use native.Mathlib.Nat.{mul-le-mul, mul-le-mul-right}
-use lib.Dec.{T, ltb→lt}
+use borrow.Author.Tests.{lt-ltb, le-ltb}
+use lib.Dec.{T, ltb→lt, lt→ltb}
 use Rattle.answers.specs.Refusals.{NODES, number}
-use Rattle.answers.specs.Answers.{Told.done, Told.refused, told}
-use Rattle.answers.specs.Host.{hostNumber, fitsHost, largestUnit}
+use Rattle.answers.specs.Answers.{Told, Told.done, Told.refused, told, Outcome, outcome, check}
+use Rattle.answers.specs.Host.{hostNumber, narrowUnit, wideUnit, hosted, heard}
+use Rattle.answers.specs.Inside.Fits.{fitsHost, largestUnit}
 use Rattle.answers.specs.declared.Refusal.{Refusal}
 use Rattle.answers.specs.declared.Refusal.the-variants.{Room, Shape, Node, Degree, Weight, Spread, Sum, List, Variable, Reading, Range, Text, Nodes}
 use Rattle.answers.specs.declared.Answer.{Answer}
@@ -18,7 +21,7 @@ pub record Numbered (n : ℕ) : Type 0 where
   pub some : 0 < n
   pub most : n ≤ NODES
 
-between : {n : ℕ} → 0 < n → n ≤ NODES → Numbered n
+pub between : {n : ℕ} → 0 < n → n ≤ NODES → Numbered n
 between some most = record { some = some; most = most }
 
 pub numbered : (r : Refusal) → Numbered (number r)
@@ -65,3 +68,64 @@ module _ (unit : ℕ) where
   host-apart (Refused r p) (Refused s q) f g e =
       let parts = apart unit (number r) (number s) p q (ltb→lt p unit f) (ltb→lt q unit g) e in
       ap₂ (λ (m n : ℕ). refused m n) (parts .0) (parts .1)
+
+-- ---- What a host hears.
+
+-- a refusal with a place below the unit
+pub record Placed (unit refusal place : ℕ) : Type 0 where
+  pub numbered : Numbered refusal
+  pub below : place < unit
+
+-- what is told can be heard: a number that is returned is below 65,536, whatever the unit
+abbrev pub Hearable : ℕ → Told → Type 0
+Hearable unit (done n) = n < narrowUnit
+Hearable unit (refused refusal place) = Placed unit refusal place
+
+pub wide-heard : (t : Told) → Hearable wideUnit t → heard (hostNumber wideUnit t) ≡ t
+wide-heard (done n) w = rw (lt-ltb n narrowUnit w)
+wide-heard (refused refusal place) w =
+    let number = refusal * wideUnit + place in
+    let h = w .below in
+    let refusal-is : number / wideUnit ≡ refusal = omega arith in
+    let place-is : number % wideUnit ≡ place = omega arith in
+    let above : wideUnit ≤ number = omega (arith, w .numbered .some) in
+    rw (le-ltb number narrowUnit (omega arith), le-ltb number wideUnit above, refusal-is, place-is)
+
+pub narrow-heard : (t : Told) → Hearable narrowUnit t → heard (hostNumber narrowUnit t) ≡ t
+narrow-heard (done n) w = rw (lt-ltb n narrowUnit w)
+narrow-heard (refused refusal place) w =
+    let number = refusal * narrowUnit + place in
+    let h = w .below in
+    let refusal-is : number / narrowUnit ≡ refusal = omega arith in
+    let place-is : number % narrowUnit ≡ place = omega arith in
+    let above : narrowUnit ≤ number = omega (arith, w .numbered .some) in
+    let under : number < wideUnit = omega (arith, w .numbered .most) in
+    rw (le-ltb number narrowUnit above, lt-ltb number wideUnit under, refusal-is, place-is)
+
+-- the number, and the areas, tell the whole outcome
+module _ {Areas : Type 0} (unit : ℕ) (o : Outcome Areas) (told-so : heard (hostNumber unit (o .answer)) ≡ o .answer) where
+  pub outcome-heard : {number : ℕ} {a : Areas} → (number, a) ≡ hosted unit o → o ≡ outcome (heard number) a
+  outcome-heard e =
+      ap₂ (λ (t : Told) (x : Areas). outcome t x) (sym told-so ∙ ap (λ (p : ℕ × Areas). heard (p .0)) (sym e)) (ap (λ (p : ℕ × Areas). p .1) (sym e))
+
+-- ---- How an operation is shown to stay within a unit.
+
+module _ {Areas : Type 0} {unit : ℕ} where
+  -- of what is behind each answer
+  pub within : (o : Outcome Areas) → ((n : ℕ) (a : Areas) → o ≡ outcome (done n) a → n < narrowUnit)
+      → ((refusal place : ℕ) (a : Areas) → o ≡ outcome (refused refusal place) a → Placed unit refusal place) → Hearable unit (o .answer)
+  within o d r = go (o .answer) refl
+    where
+      go : (t : Told) → o .answer ≡ t → Hearable unit t
+      go (done n) e = d n (o .areas) (ap (λ t. outcome t (o .areas)) e)
+      go (refused refusal place) e = r refusal place (o .areas) (ap (λ t. outcome t (o .areas)) e)
+
+  -- check by check
+  pub within-check : (b : Bool) (refusal place : ℕ) (a : Areas) (rest : Outcome Areas) → Placed unit refusal place → (T b → Hearable unit (rest .answer))
+      → Hearable unit (check b refusal place a rest .answer)
+  within-check true refusal place a rest p k = k tt
+  within-check false refusal place a rest p k = p
+
+pub within-fits : (unit : ℕ) → narrowUnit ≤ unit → (t : Told) → Hearable unit t → T (fitsHost unit t)
+within-fits unit large (done n) w = lt→ltb n unit (omega (arith, large, w))
+within-fits unit large (refused refusal place) w = lt→ltb place unit (w .below)

@@ -1,20 +1,5 @@
--- That a contract leaves one outcome, as the caller sees it: how it is stated, for functions that are lent nothing, and for those that are lent areas.
+-- A contract that names the outcome leaves one.
 use mathlib.Core.Path.{_≡_, sym, _∙_}
 
--- A function's `Learnt` is what its caller learns: of the arguments, the result, and the arguments after the call.
-module _ {K : Type 0} {Arguments Result Exit : K → Type 0} (learnt : (k : K) → Arguments k → Result k → Exit k → Type 0) where
-  -- what holds of any two outcomes of one call
-  abbrev pub Outcomes : ((k : K) → Result k → Result k → Exit k → Exit k → Type 0) → Type 0
-  Outcomes alike = (k : K) (a : Arguments k) (r r' : Result k) (e e' : Exit k) → learnt k a r e → learnt k a r' e' → alike k r r' e e'
-
-  -- of a function that is lent nothing, the caller sees the result alone
-  abbrev pub One : Type 0
-  One = Outcomes (λ k r r' e e'. r ≡ r')
-
-  -- of one that is lent areas, what they hold after the call too: `λ k e. now (e .0)` for the first argument, `(now (e .0), now (e .1 .0))` for two
-  abbrev pub OneLent : {L : Type 0} → ((k : K) → Exit k → L) → Type 0
-  OneLent area = Outcomes (λ k r r' e e'. (r ≡ r') × (area k e ≡ area k e'))
-
--- a contract that names the outcome leaves one
 pub same : {A : Type 0} {x y z : A} → x ≡ z → y ≡ z → x ≡ y
 same h h' = h ∙ sym h'

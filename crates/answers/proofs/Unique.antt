@@ -10,7 +10,8 @@ use Rattle.answers.specs.declared.Refusal.{Refusal}
 use Rattle.answers.specs.declared.Refusal.the-variants.{Room, Shape, Node, Degree, Weight, Spread, Sum, List as ListAtFault, Variable, Reading, Range, Text, Nodes}
 use Rattle.answers.specs.declared.Answer.{Answer}
 use Rattle.answers.specs.declared.Answer.the-variants.{Done, Refused}
-use Rattle.answers.proofs.Outcomes.{One, OneLent, same}
+use Rattle.answers.proofs.Outcomes.{same}
+use Rattle.answers.specs.Promised.{One, OneLent}
 use Rattle.answers.proofs.Refusal.number.Reads as refusal-number
 use Rattle.answers.proofs.Answer.for_host.Reads as for-host
 use Rattle.answers.proofs.areas.copy_words.Reads as copy-words

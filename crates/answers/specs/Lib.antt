@@ -4,3 +4,5 @@ pub mod Judge
 pub mod Host
 pub mod Areas
 pub mod Quoted
+pub mod Promised
+pub mod Inside

@@ -5,7 +5,8 @@ ghost use Prim.Native.Nat.{_≤_};
 ghost use lib.Dec.{T};
 ghost use Rattle.answers.specs.Refusals.{number};
 ghost use Rattle.answers.specs.Answers.{told};
-ghost use Rattle.answers.specs.Host.{hostNumber, fitsHost, largestUnit};
+ghost use Rattle.answers.specs.Host.{hostNumber};
+ghost use Rattle.answers.specs.Inside.Fits.{fitsHost, largestUnit};
 
 pub mod areas;
 

@@ -25,12 +25,13 @@ use Rattle.change.specs.Inside.Kept.{listedOf, listFault, pairsFrom, Kep
 use Rattle.change.specs.declared.lists.Listed as list
 use Rattle.change.specs.declared.lists.Listed.the-variants.{Pairs}
 use Rattle.change.proofs.lists.Listed as list-answer
-use Rattle.change.proofs.ListBytes.{AllGood, list-written}
+use Rattle.change.proofs.ListBytes.{list-written}
+use Rattle.change.specs.Promised.{AllGood}
 use Rattle.change.proofs.Reading.{Alike, Alike.both}
 use Rattle.change.proofs.TakeList.{pairs-stopped, pairs-read}
 use Rattle.change.proofs.Passing.{judge-applied}
 use Rattle.change.proofs.Meaning.{applied-accepted}
-use Rattle.change.proofs.Given.{First, first-few, first-is, first-held, Given}
+use Rattle.change.proofs.Given.{First, first-few, first-is, first-held, SumGiven}
 
 -- ---- The list was read, and its n pairs are kept.
 
@@ -59,7 +60,7 @@ kept-list pairs byte {vs = vs} {ns = ns} {ws = ws} {cs = cs} is says keeps =
     }
 
 -- what applying them to the sum asks
-pub can-apply : {bytes fp : List ℕ} {fc : List ℤ} {m : ℕ} → Given bytes fp fc m → {pairs vs ns ws : List ℕ} {cs : List ℤ} {n : ℕ} → Kept-list pairs vs ns ws cs n
+pub can-apply : {bytes fp : List ℕ} {fc : List ℤ} {m : ℕ} → SumGiven bytes fp fc m → {pairs vs ns ws : List ℕ} {cs : List ℤ} {n : ℕ} → Kept-list pairs vs ns ws cs n
     → n ≤ length vs → n ≤ length ns → workPlaces ≤ length ws → workPlaces ≤ length cs → CanApply n vs ns ws cs fp fc m
 can-apply g l variables-room numbers-room words-room coefficients-room = record {
   inside = l .few;
@@ -79,7 +80,7 @@ module _ (bytes pairs area : List ℕ) where
   unfolding judgeSubstitute
   bad-sum h = ap (λ t. outcome t area) (h .says) ∙ sym (sum-refused bytes _ area (h .fault))
 
-  module _ {fp : List ℕ} {fc : List ℤ} {m : ℕ} (g : Given bytes fp fc m) where
+  module _ {fp : List ℕ} {fc : List ℤ} {m : ℕ} (g : SumGiven bytes fp fc m) where
     pub bad-list : (r : list.Listed) → OneOf (1 ∷ []) (tagOf list-answer.the-type r) → listedOf r ≡ mapped length (readList variables pairs)
         → {t : Told} → t ≡ listFault (listedOf r) → outcome t area ≡ packedInto (judgeSubstitute bytes pairs) area
     unfolding judgeSubstitute packedInto

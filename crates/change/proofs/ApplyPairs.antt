@@ -28,13 +28,13 @@ use Rattle.sums.specs.Asked.{Room}
 use Rattle.sums.specs.Part.{part}
 use Rattle.sums.proofs.Holding.{terms-many, spells, accepted-holdable, holds-sum}
 use Rattle.sums.proofs.Parts.{lent-front}
-use Rattle.pair.specs.Asked.{Given}
+use Rattle.pair.specs.Asked.{CanPut}
 use Rattle.change.specs.Pairs.{Pair, pair}
 use Rattle.change.specs.Substitute.{judgePair, judgePairs}
 use Rattle.change.specs.Inside.Kept.{pairAt, pairsFrom, KeptAt, CanApply}
 use Rattle.change.proofs.Passing.{judge-passes}
 use Rattle.change.proofs.Meaning.{after-accepted}
-use Rattle.change.proofs.Told.{Ensured, Stands, stands-ensured, done-stands, refused-ensured}
+use Rattle.change.proofs.Told.{Ensured, ToldAt, stands-ensured, done-stands, refused-ensured}
 
 module _ (pairs : ℕ) (vs ns ws : List ℕ) (cs : List ℤ) where
   -- what the pairs from pair j on make of s, and what all of them make of a sum of n terms
@@ -120,7 +120,7 @@ module _ {pairs : ℕ} {vs ns ws : List ℕ} {cs : List ℤ} {fp₀ : List ℕ} 
     coefficients-lent : sc ≡ take (getD ns j 0) (part j cs)
     coefficients-lent = lent-front j (getD ns j 0) (kept .few) cs
 
-    pub given : Given (getD vs j 0) sp sc (take (n - 0) fp) (take (n - 0) fc)
+    pub given : CanPut (getD vs j 0) sp sc (take (n - 0) fp) (take (n - 0) fc)
     given = record { known = kept .known; put = rw (words-lent, coefficients-lent) (kept .sum); into = rw (sub-zero n) (a .can .sum) }
 
     -- what `apply_pair` answers
@@ -135,7 +135,7 @@ module _ {pairs : ℕ} {vs ns ws : List ℕ} {cs : List ℤ} {fp₀ : List ℕ} 
           (refused-ensured (judgePair j p s) (judgedFrom pairs vs ns ws cs (suc j)) next-patterns next-coefficients r key answer fp fc)
 
       module _ {m : ℕ} (is : r ≡ Done m) where
-        made : Stands (judgePair j p s) ps ds m
+        made : ToldAt (judgePair j p s) ps ds m
         made = done-stands (judgePair j p s) next-patterns next-coefficients r is answer
 
         made-accepted : Accepted variables (made .sum)

@@ -3,11 +3,12 @@ use mathlib.Core.Path.{_≡_, refl}
 use mathlib.Core.List.{List, [], _∷_, _++_}
 use Prim.Native.Nat.{ℕ, zero, suc, _-_}
 use lib.ListN.{replicate}
-use Rattle.answers.proofs.Tables.{Each, _also_}
+use Rattle.answers.proofs.Tables.{_also_}
+use Rattle.answers.specs.Promised.{Each}
 use Rattle.algebra.specs.Limits.{variables}
 use Rattle.algebra.specs.Pattern.{times, degree, same, thenBy, byPowers, order}
 use Rattle.algebra.specs.Sum.{Sum, degreeOf, weight}
-use Rattle.algebra.specs.Collect.{place, insert, gather, keep, dropZeros, collect, occurs, countNew, spread}
+use Rattle.algebra.specs.Collect.{settle, insert, gather, keep, dropZeros, collect, occurs, countNew, spread}
 use Rattle.algebra.specs.Arithmetic.{row, pairs, _⊗_, productSpread, power, powerSpread}
 use Rattle.algebra.specs.Slope.{slope}
 use Rattle.algebra.specs.Substitute.{substitute}
@@ -36,7 +37,7 @@ pub data Case : Type 0 where
 
 abbrev pub bytesOf : Judged Sum → Judged (List ℕ)
 bytesOf (good s) = good (packed s)
-bytesOf (fails refusal place) = fails refusal place
+bytesOf (fails refusal settle) = fails refusal settle
 
 abbrev pub Says : Case → Type 0
 Says (slopes bytes v gives) = bytesOf (andThen (judged SUM (readWhole variables bytes)) (judgeSlope v)) ≡ gives
@@ -134,7 +135,7 @@ table =
     ∷ []
 
 pub cases-hold : Each Says table
-unfolding table two alone nothing heaviest half aSquared square every sixteen column times degree same thenBy byPowers order degreeOf weight place insert gather keep dropZeros collect occurs countNew spread row pairs _⊗_ productSpread power powerSpread slope rows pairRows substitute pairDegree pairWeight largestPower pairSpread holding andThen item.andThen item.provided item.mapped groupsOf numberBytes readByte readGroups readNumber code decode exponentBytes termBytes bytesOfTerms packed weighs follows readCoefficient readExponents readTerm readTerms readSum readWhole judgeSlope listing.andThen listing.provided listing.mapped readPairs toTheEnd readList judgePair judgePairs judgeSubstitute
+unfolding table two alone nothing heaviest half aSquared square every sixteen column times degree same thenBy byPowers order degreeOf weight settle insert gather keep dropZeros collect occurs countNew spread row pairs _⊗_ productSpread power powerSpread slope rows pairRows substitute pairDegree pairWeight largestPower pairSpread holding andThen item.andThen item.provided item.mapped groupsOf numberBytes readByte readGroups readNumber code decode exponentBytes termBytes bytesOfTerms packed weighs follows readCoefficient readExponents readTerm readTerms readSum readWhole judgeSlope listing.andThen listing.provided listing.mapped readPairs toTheEnd readList judgePair judgePairs judgeSubstitute
 cases-hold =
     refl also refl also refl
     also refl also refl also refl

@@ -18,13 +18,15 @@ use Rattle.answers.specs.Judge.{Judged.good}
 use Rattle.answers.proofs.Writes.{written-front}
 use Rattle.packed.specs.Packed.{packed, mostBytes}
 use Rattle.packed.specs.Result.{packedInto}
-use Rattle.packed.proofs.Results.{PackedSum, Handed, Whole, result-room, result-written}
+use Rattle.packed.proofs.Results.{Handed, Whole, result-room, result-written}
+use Rattle.packed.specs.Promised.{PackedSum}
 use Rattle.sums.specs.Held.{HeldSum}
 use Rattle.sums.proofs.Holding.{accepted-holdable, spells, each-valid, holds-sum}
 use Rattle.weights.specs.Capped.{capped}
 use Rattle.weights.proofs.Weighing.{capped-light}
 use Rattle.change.specs.Slope.{judgeSlope, slope}
-use Rattle.change.proofs.Sloped.{slope-accepted, after-sum, Refuses.at-sum, refuses-slope}
+use Rattle.change.proofs.Sloped.{slope-accepted, after-sum, refuses-slope}
+use Rattle.change.specs.Promised.{SlopeRefuses.at-sum}
 
 -- ---- An accepted sum stands in the first n places of two arrays.
 
@@ -68,12 +70,12 @@ module _ {s : Sum} {ws : List ℕ} {cs : List ℤ} {n : ℕ} (f : First s ws cs 
 
 -- ---- The sum that is given.
 
-pub record Given (bytes sp : List ℕ) (sc : List ℤ) (n : ℕ) : Type 0 where
+pub record SumGiven (bytes sp : List ℕ) (sc : List ℤ) (n : ℕ) : Type 0 where
   pub sum : Sum
   pub of-bytes : PackedSum bytes sum
   pub first : First sum sp sc n
 
-pub given : {bytes : List ℕ} (ws : List ℕ) (cs : List ℤ) {sp : List ℕ} {sc : List ℤ} {n : ℕ} → Whole bytes ws cs sp sc n → Given bytes sp sc n
+pub given : {bytes : List ℕ} (ws : List ℕ) (cs : List ℤ) {sp : List ℕ} {sc : List ℤ} {n : ℕ} → Whole bytes ws cs sp sc n → SumGiven bytes sp sc n
 given ws cs w = record {
   sum = w .sum;
   of-bytes = w .of-bytes;
@@ -86,7 +88,7 @@ module _ (bytes : List ℕ) (v : ℕ) (area : List ℕ) (room : mostBytes variab
   pub slope-handed : {t : Told} → Handed bytes t → outcome t area ≡ slope bytes v area
   slope-handed h = ap (λ (t : Told). outcome t area) (h .says) ∙ sym (refuses-slope bytes v area (at-sum room (h .fault)))
 
-  pub slope-given : {sp : List ℕ} {sc : List ℤ} {n : ℕ} → Given bytes sp sc n → {o : Outcome (List ℕ)} → o ≡ packedInto (judgeSlope v (firstTerms n sp sc)) area → o ≡ slope bytes v area
+  pub slope-given : {sp : List ℕ} {sc : List ℤ} {n : ℕ} → SumGiven bytes sp sc n → {o : Outcome (List ℕ)} → o ≡ packedInto (judgeSlope v (firstTerms n sp sc)) area → o ≡ slope bytes v area
   slope-given g e = e ∙ ap (λ (s : Sum). packedInto (judgeSlope v s) area) (first-is (g .first)) ∙ sym (after-sum bytes v area room (g .of-bytes))
 
 -- ---- The slope of a sum, whose weight was found.

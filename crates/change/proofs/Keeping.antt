@@ -25,13 +25,13 @@ use Rattle.change.specs.Inside.Kept.{pairAt, pairsFrom, KeptAt, Kept}
 -- ---- One pair.
 
 -- the variable and the terms of pair j
-pub record Stands (vs ns ws : List ℕ) (cs : List ℤ) (j : ℕ) (p : Pair) : Type 0 where
+pub record PairAt (vs ns ws : List ℕ) (cs : List ℤ) (j : ℕ) (p : Pair) : Type 0 where
   pub variable-is : getD vs j 0 ≡ p .variable
   pub many : length (p .sum) ≡ getD ns j 0
   pub words-are : take (getD ns j 0) (part j ws) ≡ wordsOf (p .sum)
   pub coefficients-are : take (getD ns j 0) (part j cs) ≡ coefficientsOf (p .sum)
 
-module _ {vs ns ws : List ℕ} {cs : List ℤ} {j : ℕ} {p : Pair} (s : Stands vs ns ws cs j p) (accepted : Accepted variables (p .sum)) where
+module _ {vs ns ws : List ℕ} {cs : List ℤ} {j : ℕ} {p : Pair} (s : PairAt vs ns ws cs j p) (accepted : Accepted variables (p .sum)) where
   stands-pair : pairAt vs ns ws cs j ≡ p
   stands-pair = ap₂ pair (s .variable-is) (ap₂ terms (s .words-are) (s .coefficients-are) ∙ spells (accepted-holdable accepted))
 
@@ -82,7 +82,7 @@ module _ (vs ns ws : List ℕ) (cs : List ℤ) (vs' ns' ws' : List ℕ) (cs' : L
   pairs-same j (suc left) m = ap₂ (λ (p : Pair) (l : List Pair). p ∷ l) (pair-same j (m j (omega arith))) (pairs-same (suc j) left (λ i h. m i (omega arith)))
 
   -- one pair more
-  module _ {j : ℕ} (p : Pair) (before : (i : ℕ) → i < j → Same i) (last : Stands vs' ns' ws' cs' j p)
+  module _ {j : ℕ} (p : Pair) (before : (i : ℕ) → i < j → Same i) (last : PairAt vs' ns' ws' cs' j p)
       (known : p .variable < variables) (accepted : Accepted variables (p .sum)) where
     kept-more : Kept j vs ns ws cs → Kept (suc j) vs' ns' ws' cs'
     kept-more k i h = go (decLt i j)
@@ -148,7 +148,7 @@ module _ (vs ns ws : List ℕ) (cs : List ℤ) (j : ℕ) (room-v : j < length vs
     coefficients-are = part-stays j cs ds room-c ld i h;
   }
 
-  last-stands : Stands vs' ns' ws' cs' j (pair v S)
+  last-stands : PairAt vs' ns' ws' cs' j (pair v S)
   last-stands =
       let number : getD ns' j 0 ≡ n = getD-set-same ns j n 0 room-n in
       record {

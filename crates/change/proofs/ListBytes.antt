@@ -6,25 +6,17 @@ use native.Mathlib.Omega.{arith}
 use native.Mathlib.Nat.{zero-add}
 use lib.Dec.{ltb, leb, ltb→lt, lt→ltb, leb→le, le→leb}
 use lib.ListN.{length, getD, drop, length-append, drop-of-length-le}
-use Rattle.answers.proofs.Tables.{Each}
+use Rattle.answers.specs.Promised.{Each}
 use Rattle.algebra.specs.Accepted.{Accepted}
 use Rattle.numbers.specs.Number.{numberBytes, readNumber}
 use Rattle.numbers.proofs.Numbers.{number-read, number-cut}
 use Rattle.packed.specs.Packed.{packed}
 use Rattle.packed.specs.ReadSum.{readSum}
-use Rattle.packed.proofs.Trip.{after, sum-read, Stands, stands-none, stands-both, number-stands, sum-written}
+use Rattle.packed.proofs.Trip.{after, sum-read, BytesAt, stands-none, stands-both, number-stands, sum-written}
 use Rattle.packed.proofs.Places.{sum-cut}
-use Rattle.change.specs.Pairs.{Pair, pair, pairsBytes, listBytes, Fault.ended, Fault.damaged, Fault.unknown, Listed, Listed.listed, Listed.faulty, readPairs, toTheEnd, readList}
+use Rattle.change.specs.Pairs.{Pair, pair, pairsBytes, listBytes, ListFault.ended, ListFault.damaged, ListFault.unknown, Listed, Listed.listed, Listed.faulty, readPairs, toTheEnd, readList}
+use Rattle.change.specs.Promised.{AllGood}
 use Rattle.change.proofs.Reading.{then-got, provided-yes, mapped-listed, through, passed, came-from, carry, EndsAt, ends-then, ends-mapped, ends-provided}
-
--- ---- Pairs in n variables that can stand in a list.
-
-pub record Good (n : ℕ) (p : Pair) : Type 0 where
-  pub known : p .variable < n
-  pub accepted : Accepted n (p .sum)
-
-abbrev pub AllGood : ℕ → List Pair → Type 0
-AllGood n ps = Each (Good n) ps
 
 -- ---- What was written is read again. A number takes at most 64 bits, so there are not more variables than that tells.
 
@@ -63,7 +55,7 @@ module _ (s : List ℕ) (byte : (i : ℕ) → getD s i 0 < 256) where
   record Pairs (n left at : ℕ) (ps : List Pair) (end : ℕ) : Type 0 where
     good : AllGood n ps
     many : length ps ≡ left
-    stands : Stands s at (pairsBytes ps) end
+    stands : BytesAt s at (pairsBytes ps) end
 
   pairs-written : (n left : ℕ) (ps : List Pair) (at end : ℕ) → readPairs n left s at ≡ listed ps end → Pairs n left at ps end
   unfolding readPairs pairsBytes

@@ -8,12 +8,13 @@ use native.Mathlib.Nat.{mul-suc, mul-le-mul-left}
 use lib.Dec.{T, ltb, leb, leb→le}
 use lib.ListN.{length, getD}
 use Rattle.algebra.specs.Limits.{variables}
-use Rattle.numbers.specs.Item.{Item, Item.got, Item.cut, Item.bad, placeOf}
+use Rattle.numbers.specs.Item.{Item, Item.got, Item.cut, Item.bad}
+use Rattle.numbers.proofs.Items.{placeOf}
 use Rattle.numbers.specs.Number.{mostGroups, readNumber}
 use Rattle.packed.specs.Packed.{mostBytes}
 use Rattle.packed.specs.ReadSum.{readSum}
 use Rattle.packed.proofs.Places.{end-place, number-place, sum-place}
-use Rattle.change.specs.Pairs.{Fault, Fault.damaged, Fault.unknown, Listed, Listed.listed, Listed.faulty, andThen, provided, mapped, readPairs, toTheEnd, readList}
+use Rattle.change.specs.Pairs.{ListFault, ListFault.damaged, ListFault.unknown, Listed, Listed.listed, Listed.faulty, andThen, provided, mapped, readPairs, toTheEnd, readList}
 
 -- the place that is answered: after what was read, or of the fault
 abbrev pub listPlace : {A : Type 0} → Listed A → ℕ
@@ -29,7 +30,7 @@ place-then most (got a next) f h k = k a next refl
 place-then most (cut place) f h k = h
 place-then most (bad place) f h k = h
 
-place-provided : {A : Type 0} (most : ℕ) (b : Bool) (what : Fault) (place : ℕ) (r : Listed A) → place ≤ most → (T b → listPlace r ≤ most)
+place-provided : {A : Type 0} (most : ℕ) (b : Bool) (what : ListFault) (place : ℕ) (r : Listed A) → place ≤ most → (T b → listPlace r ≤ most)
     → listPlace (provided b what place r) ≤ most
 unfolding provided
 place-provided most true what place r h k = k tt

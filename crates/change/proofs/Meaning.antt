@@ -12,13 +12,13 @@ use Rattle.algebra.specs.Value.{value}
 use Rattle.algebra.proofs.Sums.Substitutes.{substitute-value, substitute-ordered, substitute-degree, substitute-weight, substitute-length}
 use Rattle.change.specs.Pairs.{Pair}
 use Rattle.change.specs.Meaning.{before}
-use Rattle.change.proofs.ListBytes.{Good, AllGood}
+use Rattle.change.specs.Promised.{GoodPair, AllGood}
 use Rattle.change.specs.Substitute.{putIn}
 use Rattle.change.specs.Checks.{Passes, Applied, Applied.none, Applied.more}
 
 -- ---- Accepted sums.
 
-pub after-accepted : {p : Pair} {s : Sum} → Good variables p → Accepted variables s → Passes p s → Accepted variables (putIn p s)
+pub after-accepted : {p : Pair} {s : Sum} → GoodPair variables p → Accepted variables s → Passes p s → Accepted variables (putIn p s)
 after-accepted {p} {s} g a q =
     let v = p .variable in
     let S = p .sum in

@@ -8,11 +8,11 @@ use lib.Dec.{T}
 use Rattle.numbers.specs.Item.{Item, Item.got, Item.cut, Item.bad}
 use Rattle.numbers.proofs.Items as items
 use Rattle.numbers.proofs.Items.{CutAt, Alike.both-cut, Alike.both-bad}
-use Rattle.change.specs.Pairs.{Fault, Fault.ended, Listed, Listed.listed, Listed.faulty, andThen, provided, mapped, toTheEnd}
+use Rattle.change.specs.Pairs.{ListFault, ListFault.ended, Listed, Listed.listed, Listed.faulty, andThen, provided, mapped, toTheEnd}
 use Rattle.change.specs.Inside.Kept.{itemFault}
 
 -- nothing is both
-pub never : {A : Type 0} {what : Fault} {place next : ℕ} {a : A} → faulty what place ≡ listed a next → ⊥
+pub never : {A : Type 0} {what : ListFault} {place next : ℕ} {a : A} → faulty what place ≡ listed a next → ⊥
 never e = let z : _≡_ {A = ℕ} 0 1 = cc in omega arith
 
 -- ---- Forwards.
@@ -21,11 +21,11 @@ pub then-got : {A B : Type 0} (f : A → ℕ → Listed B) {r : Item A} {a : A} 
 unfolding andThen
 then-got f e = rw e
 
-pub provided-yes : {A : Type 0} (what : Fault) (place : ℕ) (r : Listed A) (b : Bool) → T b → provided b what place r ≡ r
+pub provided-yes : {A : Type 0} (what : ListFault) (place : ℕ) (r : Listed A) (b : Bool) → T b → provided b what place r ≡ r
 unfolding provided
 provided-yes what place r true t = refl
 
-pub provided-no : {A : Type 0} (what : Fault) (place : ℕ) (r : Listed A) (b : Bool) → (T b → ⊥) → provided b what place r ≡ faulty what place
+pub provided-no : {A : Type 0} (what : ListFault) (place : ℕ) (r : Listed A) (b : Bool) → (T b → ⊥) → provided b what place r ≡ faulty what place
 unfolding provided
 provided-no what place r true f = absurd (f tt)
 provided-no what place r false f = refl
@@ -53,7 +53,7 @@ through (got a next) f b end e = record { value = a; next = next; first = refl; 
 through (cut place) f b end e = absurd (never e)
 through (bad place) f b end e = absurd (never e)
 
-pub passed : {A : Type 0} (b : Bool) (what : Fault) (place : ℕ) (r : Listed A) (a : A) (next : ℕ) → provided b what place r ≡ listed a next → (T b) × (r ≡ listed a next)
+pub passed : {A : Type 0} (b : Bool) (what : ListFault) (place : ℕ) (r : Listed A) (a : A) (next : ℕ) → provided b what place r ≡ listed a next → (T b) × (r ≡ listed a next)
 unfolding provided
 passed true what place r a next e = (tt, e)
 passed false what place r a next e = absurd (never e)
@@ -92,7 +92,7 @@ ends-mapped end f (faulty what place) c p e =
     let place-same : place ≡ p = cc in
     c p (rw (what-same, place-same) refl)
 
-pub ends-provided : {A : Type 0} (end : ℕ) (b : Bool) (what : Fault) (place : ℕ) (r : Listed A) → (what ≡ ended → ⊥) → EndsAt end r → EndsAt end (provided b what place r)
+pub ends-provided : {A : Type 0} (end : ℕ) (b : Bool) (what : ListFault) (place : ℕ) (r : Listed A) → (what ≡ ended → ⊥) → EndsAt end r → EndsAt end (provided b what place r)
 unfolding provided
 ends-provided end true what place r other c p e = c p e
 ends-provided end false what place r other c p e = let same : what ≡ ended = cc in absurd (other same)
@@ -100,7 +100,7 @@ ends-provided end false what place r other c p e = let same : what ≡ ended = c
 -- ---- Faults: two readings have met the same one.
 
 pub data Alike {A B : Type 0} : Listed A → Listed B → Type 0 where
-  both : {what : Fault} {place : ℕ} → Alike (faulty what place) (faulty what place)
+  both : {what : ListFault} {place : ℕ} → Alike (faulty what place) (faulty what place)
 
 -- an item's fault is the list's
 pub alike-then : {A B C : Type 0} (f : B → ℕ → Listed C) {x : Item A} {y : Item B} → items.Alike x y → Alike (itemFault x) (andThen y f)
@@ -108,7 +108,7 @@ unfolding andThen
 alike-then f both-cut = both
 alike-then f both-bad = both
 
-pub alike-provided : {A B : Type 0} (what : Fault) (place : ℕ) (r : Listed B) (b : Bool) → (T b → ⊥) → Alike {A = A} (faulty what place) (provided b what place r)
+pub alike-provided : {A B : Type 0} (what : ListFault) (place : ℕ) (r : Listed B) (b : Bool) → (T b → ⊥) → Alike {A = A} (faulty what place) (provided b what place r)
 alike-provided what place r b f = rw (provided-no what place r b f) both
 
 module _ {A B : Type 0} where

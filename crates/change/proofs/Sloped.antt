@@ -23,8 +23,10 @@ use Rattle.packed.specs.Packed.{packed, mostBytes}
 use Rattle.packed.specs.ReadSum.{readWhole}
 use Rattle.packed.specs.Whole.{judged}
 use Rattle.packed.specs.Result.{packedInto}
-use Rattle.packed.proofs.Results.{PackedSum, AtFault, Reading, Reading.a-sum, Reading.a-fault, reading, sum-given, sum-refused}
+use Rattle.packed.proofs.Results.{Reading, Reading.a-sum, Reading.a-fault, reading, sum-given, sum-refused}
+use Rattle.packed.specs.Promised.{PackedSum, AtFault}
 use Rattle.change.specs.Slope.{judgeSlope, slope}
+use Rattle.change.specs.Promised.{Sloped, SlopeRefuses, SlopeRefuses.no-room, SlopeRefuses.at-sum, SlopeRefuses.no-variable, SlopeRefuses.heavy, SlopeRefuses.wide}
 
 -- ---- The slope of an accepted sum is accepted, if it is light: its degree is no higher, and it has no more terms.
 
@@ -70,30 +72,6 @@ judged-good v s area accepted known light = ap (λ j. packedInto j area) (judge-
 -- ---- The outcomes.
 
 module _ (bytes : List ℕ) (v : ℕ) (area : List ℕ) where
-  -- it is done: every check passes, and the result is the slope of the sum that was given
-  pub record Sloped (n : ℕ) (area' : List ℕ) : Type 0 where
-    pub sum : Sum
-    pub result : Sum
-    pub room : mostBytes variables ≤ length area
-    pub accepted : Accepted variables sum
-    pub bytes-are : bytes ≡ packed sum
-    pub known : v < variables
-    pub result-is : result ≡ algebra.slope v sum
-    pub result-accepted : Accepted variables result
-    -- the coefficient of each pattern is that of the pattern with one power of v more, times that power
-    pub coefficients-are : (r : Pattern) → length r ≡ variables → coefficient result r ≡ pos (suc (exponent v r)) *ℤ coefficient sum (raised v r)
-    pub many : n ≡ length (packed result)
-    pub area-is : area' ≡ written (packed result) area
-
-  -- it is refused: the refusal, its place, and the area, which stays. (A sum has no more terms than 128, and its slope no more than the sum: `never-wide`.)
-  pub data Refuses : ℕ → ℕ → List ℕ → Type 0 where
-    no-room : length area < mostBytes variables → Refuses ROOM 0 area
-    at-sum : {p : ℕ} → mostBytes variables ≤ length area → AtFault (readWhole variables bytes) p → Refuses SUM p area
-    no-variable : {s : Sum} → mostBytes variables ≤ length area → PackedSum bytes s → variables ≤ v → Refuses VARIABLE 0 area
-    heavy : {s : Sum} → mostBytes variables ≤ length area → PackedSum bytes s → v < variables → largestWeight < weight (algebra.slope v s) → Refuses WEIGHT 0 area
-    wide : {s : Sum} → mostBytes variables ≤ length area → PackedSum bytes s → v < variables → weight (algebra.slope v s) ≤ largestWeight
-        → mostTerms < length (algebra.slope v s) → Refuses SPREAD 0 area
-
   without-room : length area < mostBytes variables → slope bytes v area ≡ outcome (refused ROOM 0) area
   unfolding slope
   without-room short = rw (lt-leb (mostBytes variables) (length area) short)
@@ -116,14 +94,14 @@ module _ (bytes : List ℕ) (v : ℕ) (area : List ℕ) where
       all-passed : v < variables → weight (algebra.slope v s) ≤ largestWeight → slope bytes v area ≡ packedInto (good (algebra.slope v s)) area
       all-passed known light = after-sum ∙ judged-good v s area (p .accepted) known light
 
-  pub refuses-slope : {refusal p : ℕ} {area' : List ℕ} → Refuses refusal p area' → slope bytes v area ≡ outcome (refused refusal p) area'
+  pub refuses-slope : {refusal p : ℕ} {area' : List ℕ} → SlopeRefuses bytes v area refusal p area' → slope bytes v area ≡ outcome (refused refusal p) area'
   refuses-slope (no-room short) = without-room short
   refuses-slope (at-sum room a) = at-fault room a
   refuses-slope (no-variable {s} room p unknown) = refused-so room p (judge-variable v s unknown)
   refuses-slope (heavy {s} room p known above) = refused-so room p (judge-weight v s known above)
   refuses-slope (wide {s} room p known light above) = refused-so room p (judge-spread v s known light above)
 
-  pub never-wide : {p : ℕ} {area' : List ℕ} → Refuses SPREAD p area' → ⊥
+  pub never-wide : {p : ℕ} {area' : List ℕ} → SlopeRefuses bytes v area SPREAD p area' → ⊥
   never-wide (wide {s} room p known light above) = omega (arith, slope-accepted v s (p .accepted) light .few)
 
 -- the packed bytes of an accepted sum are accepted, if the slope is light
@@ -138,12 +116,12 @@ module _ (bytes : List ℕ) (byte : (i : ℕ) → getD bytes i 0 < 256) (v : ℕ
   -- what stands behind an answer, and behind an outcome
   abbrev Behind : Told → List ℕ → Type 0
   Behind (done n) area' = Sloped bytes v area n area'
-  Behind (refused refusal p) area' = Refuses bytes v area refusal p area'
+  Behind (refused refusal p) area' = SlopeRefuses bytes v area refusal p area'
 
   abbrev Explains : Outcome (List ℕ) → Type 0
   Explains o = Behind (o .answer) (o .areas)
 
-  refused-by : {refusal p : ℕ} {area' : List ℕ} → Refuses bytes v area refusal p area' → Explains (slope bytes v area)
+  refused-by : {refusal p : ℕ} {area' : List ℕ} → SlopeRefuses bytes v area refusal p area' → Explains (slope bytes v area)
   refused-by d = subst Explains (sym (refuses-slope bytes v area d)) d
 
   done-by : {s : Sum} → mostBytes variables ≤ length area → PackedSum bytes s → v < variables → weight (algebra.slope v s) ≤ largestWeight → Explains (slope bytes v area)
@@ -182,5 +160,5 @@ module _ (bytes : List ℕ) (byte : (i : ℕ) → getD bytes i 0 < 256) (v : ℕ
   pub slope-means : {n : ℕ} {area' : List ℕ} → slope bytes v area ≡ outcome (done n) area' → Sloped bytes v area n area'
   slope-means e = subst Explains e explained
 
-  pub slope-refuses : {refusal p : ℕ} {area' : List ℕ} → slope bytes v area ≡ outcome (refused refusal p) area' → Refuses bytes v area refusal p area'
+  pub slope-refuses : {refusal p : ℕ} {area' : List ℕ} → slope bytes v area ≡ outcome (refused refusal p) area' → SlopeRefuses bytes v area refusal p area'
   slope-refuses e = subst Explains e explained

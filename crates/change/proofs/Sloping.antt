@@ -17,11 +17,10 @@ use Rattle.algebra.specs.Sum.{Term, term, Sum, weight}
 use Rattle.algebra.specs.Collect.{keep}
 use Rattle.algebra.specs.Slope.{slopeTerm, slope}
 use Rattle.algebra.specs.Word.{word, exponents, terms}
-use Rattle.algebra.specs.Held.{wordFor, wordsOf, coefficientsOf, firstTerms}
+use Rattle.algebra.specs.Held.{wordsOf, coefficientsOf, firstTerms}
 use Rattle.algebra.proofs.Numbers.Absolute.{abs-mul}
 use Rattle.algebra.proofs.Patterns.Laws.{exponent-degree}
 use Rattle.algebra.proofs.Patterns.Word.{exponents-length}
-use Rattle.algebra.proofs.Sums.Held.{word-for}
 use Rattle.algebra.proofs.Sums.Results.{append-weight}
 use Rattle.algebra.proofs.Sums.SlopeTerms.{lacks, slopeTerms, slope-terms, slope-weighs}
 use Rattle.answers.specs.Areas.{written}
@@ -164,7 +163,7 @@ module _ {v : ℕ} {ws : List ℕ} {cs : List ℤ} {ws₀ : List ℕ} {cs₀ : L
           stored = rw more
               (stored-next (f .stored) (slopeTerm v t) count p d (f .many)
               (omega (arith, f .fewer, f .words-room)) (omega (arith, f .fewer, f .coefficients-room, as-many (f .sum .held)))
-              (word-is ∙ sym (word-for (lowered v e) long)) coefficient-is);
+              (word-is) coefficient-is);
           many = ap length more ∙ length-append so-far (slopeTerm v t ∷ []) ∙ ap (λ (n : ℕ). n + 1) (f .many);
           fewer = omega (arith, f .fewer);
           sum = f .sum;
@@ -200,7 +199,7 @@ module _ {v n : ℕ} {ws₀ : List ℕ} {cs₀ : List ℤ} {patterns : List ℕ}
   pub word-here : getD patterns k 0 ≡ getD (take n ws₀) k 0
   word-here =
       ap (λ (l : List ℕ). getD l k 0) (f .stored .words-are)
-      ∙ getD-written (wordsOf so-far) ws₀ k 0 (omega (arith, length-map so-far (λ (u : Term). wordFor (u .pattern)), f .many, f .fewer))
+      ∙ getD-written (wordsOf so-far) ws₀ k 0 (omega (arith, length-map so-far (λ (u : Term). word (u .pattern)), f .many, f .fewer))
       ∙ sym (getD-take n ws₀ k 0 h)
 
   pub coefficient-here : getD coefficients k (pos 0) ≡ getD (take n cs₀) k (pos 0)

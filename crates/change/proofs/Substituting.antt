@@ -17,76 +17,52 @@ use Rattle.answers.specs.Judge.{Judged}
 use Rattle.answers.proofs.Judging.{then-good, then-fails}
 use Rattle.packed.specs.Packed.{packed}
 use Rattle.packed.specs.ReadSum.{readWhole}
-use Rattle.packed.specs.Result.{Areas, packedInto, beside}
-use Rattle.packed.proofs.Results.{PackedSum, AtFault, fault-judged, sum-judged, Reading, Reading.a-sum, Reading.a-fault, reading}
-use Rattle.packed.proofs.Working.{Room, clearedWith, hasRoom, tested-room, tested-none, with-room, without-room}
-use Rattle.change.specs.Pairs.{Pair, listBytes, Fault, Listed, Listed.listed, Listed.faulty, readList, refusalOf, listJudged}
+use Rattle.packed.specs.Result.{WorkAreas, packedInto, beside}
+use Rattle.packed.proofs.Results.{fault-judged, sum-judged, Reading, Reading.a-sum, Reading.a-fault, reading}
+use Rattle.packed.specs.Promised.{PackedSum, AtFault, WorkRoom, clearedWith}
+use Rattle.packed.proofs.Working.{hasRoom, tested-room, tested-none, worked, with-room, without-room}
+use Rattle.change.specs.Pairs.{Pair, listBytes, ListFault, Listed, Listed.listed, Listed.faulty, readList, refusalOf, listJudged}
 use Rattle.change.specs.Substitute.{judgePairs, judgeSubstitute, substitute}
-use Rattle.change.specs.Meaning.{before}
-use Rattle.change.specs.Checks.{Applied, FirstFault}
-use Rattle.change.proofs.ListBytes.{AllGood, list-read, list-written}
+use Rattle.change.specs.Checks.{Applied}
+use Rattle.change.specs.Promised.{AllGood, Substituted, SubstituteRefuses, SubstituteRefuses.no-room, SubstituteRefuses.at-sum, SubstituteRefuses.at-list, SubstituteRefuses.at-pair}
+use Rattle.change.proofs.ListBytes.{list-read, list-written}
 use Rattle.change.proofs.Passing.{applied-judge, fault-judge, Verdict, Verdict.all, Verdict.first, verdict}
 use Rattle.change.proofs.Meaning.{applied-accepted, applied-value}
 
 -- ---- The outcomes.
 
 module _ (bytes list ws : List ℕ) (cs : List ℤ) (area : List ℕ) where
-  -- it is done: both inputs are what packing gives, every pair passes, and the result's values are those of algebra
-  pub record Substituted (n : ℕ) (areas : Areas) : Type 0 where
-    pub sum : Sum
-    pub ps : List Pair
-    pub result : Sum
-    pub room : Room ws cs area
-    pub bytes-are : bytes ≡ packed sum
-    pub sum-accepted : Accepted variables sum
-    pub list-is : list ≡ listBytes ps
-    pub few : length ps ≤ variables
-    pub pairs-good : AllGood variables ps
-    pub applied : Applied ps sum result
-    pub accepted : Accepted variables result
-    pub values : (x : List ℤ) → variables ≤ length x → value result x ≡ value sum (before ps x)
-    pub many : n ≡ length (packed result)
-    pub areas-are : areas ≡ clearedWith ws cs (written (packed result) area)
-
-  -- it is refused: the refusal, its place, and the areas
-  pub data Refuses : ℕ → ℕ → Areas → Type 0 where
-    no-room : (Room ws cs area → ⊥) → Refuses ROOM 0 (ws, cs, area)
-    -- the packed sum is cut or damaged
-    at-sum : {p : ℕ} → Room ws cs area → AtFault (readWhole variables bytes) p → Refuses SUM p (clearedWith ws cs area)
-    -- the sum was read, and the list is at fault
-    at-list : {s : Sum} {what : Fault} {p : ℕ} → Room ws cs area → PackedSum bytes s → readList variables list ≡ faulty what p
-        → Refuses (refusalOf what) p (clearedWith ws cs area)
-    -- both were read, and a check of a pair fails
-    at-pair : {s : Sum} {ps : List Pair} {last refusal j : ℕ} → Room ws cs area → PackedSum bytes s
-        → readList variables list ≡ listed ps last → FirstFault ps s refusal j → Refuses refusal j (clearedWith ws cs area)
+  -- what it leaves is what any operation with work areas leaves that has judged this sum
+  pub substitute-worked : substitute bytes list ws cs area ≡ worked ws cs area (judgeSubstitute bytes list)
+  unfolding substitute worked
+  substitute-worked = refl
 
   -- ---- Check by check.
 
-  after-room : Room ws cs area → {j : Judged Sum} → judgeSubstitute bytes list ≡ j
+  after-room : WorkRoom ws cs area → {j : Judged Sum} → judgeSubstitute bytes list ≡ j
       → substitute bytes list ws cs area ≡ beside (cleared 0 workPlaces ws) (cleared (pos 0) workPlaces cs) (packedInto j area)
-  unfolding substitute
-  after-room r e = with-room _ ws cs area r ∙ ap (λ j. beside (cleared 0 workPlaces ws) (cleared (pos 0) workPlaces cs) (packedInto j area)) e
+  after-room r e = substitute-worked ∙ with-room (judgeSubstitute bytes list) ws cs area r ∙ ap (λ j. beside (cleared 0 workPlaces ws) (cleared (pos 0) workPlaces cs) (packedInto j area)) e
 
   after-both : {s : Sum} {ps : List Pair} {last : ℕ} → PackedSum bytes s → readList variables list ≡ listed ps last
       → judgeSubstitute bytes list ≡ judgePairs 0 ps s
   unfolding judgeSubstitute
   after-both read listed-so = then-good _ (sum-judged read) ∙ then-good _ (ap listJudged listed-so)
 
-  all-applied : Room ws cs area → {s t : Sum} {ps : List Pair} {last : ℕ} → PackedSum bytes s → readList variables list ≡ listed ps last
+  all-applied : WorkRoom ws cs area → {s t : Sum} {ps : List Pair} {last : ℕ} → PackedSum bytes s → readList variables list ≡ listed ps last
       → Applied ps s t → substitute bytes list ws cs area ≡ outcome (done (length (packed t))) (clearedWith ws cs (written (packed t) area))
   unfolding packedInto
   all-applied r read listed-so a = after-room r (after-both read listed-so ∙ applied-judge 0 a)
 
-  pub refuses-substitute : {refusal p : ℕ} {areas : Areas} → Refuses refusal p areas → substitute bytes list ws cs area ≡ outcome (refused refusal p) areas
-  unfolding substitute judgeSubstitute packedInto
-  refuses-substitute (no-room f) = without-room (judgeSubstitute bytes list) ws cs area f
+  pub refuses-substitute : {refusal p : ℕ} {areas : WorkAreas} → SubstituteRefuses bytes list ws cs area refusal p areas → substitute bytes list ws cs area ≡ outcome (refused refusal p) areas
+  unfolding judgeSubstitute packedInto
+  refuses-substitute (no-room f) = substitute-worked ∙ without-room (judgeSubstitute bytes list) ws cs area f
   refuses-substitute (at-sum r e) = after-room r (then-fails _ (fault-judged SUM e))
   refuses-substitute (at-list r read e) = after-room r (then-good _ (sum-judged read) ∙ then-fails _ (ap listJudged e))
   refuses-substitute (at-pair r read listed-so f) = after-room r (after-both read listed-so ∙ fault-judge f)
 
 -- a packed sum and the bytes of pairs that all pass are accepted
 pub substitute-accepts : {s t : Sum} {ps : List Pair} (ws : List ℕ) (cs : List ℤ) (area : List ℕ)
-    → Room ws cs area → Accepted variables s → AllGood variables ps → length ps ≤ variables → Applied ps s t
+    → WorkRoom ws cs area → Accepted variables s → AllGood variables ps → length ps ≤ variables → Applied ps s t
     → substitute (packed s) (listBytes ps) ws cs area ≡ outcome (done (length (packed t))) (clearedWith ws cs (written (packed t) area))
 substitute-accepts {s} {t} {ps} ws cs area r a g few p =
     all-applied (packed s) (listBytes ps) ws cs area r (record { accepted = a; bytes-are = refl }) (list-read variables ps (omega arith) few g) p
@@ -95,17 +71,17 @@ substitute-accepts {s} {t} {ps} ws cs area r a g few p =
 
 module _ (bytes list ws : List ℕ) (cs : List ℤ) (area : List ℕ) (byte : (i : ℕ) → getD bytes i 0 < 256) (list-byte : (i : ℕ) → getD list i 0 < 256) where
   -- what stands behind an answer, and behind an outcome
-  abbrev Behind : Told → Areas → Type 0
+  abbrev Behind : Told → WorkAreas → Type 0
   Behind (done n) areas = Substituted bytes list ws cs area n areas
-  Behind (refused refusal p) areas = Refuses bytes list ws cs area refusal p areas
+  Behind (refused refusal p) areas = SubstituteRefuses bytes list ws cs area refusal p areas
 
-  abbrev Explains : Outcome Areas → Type 0
+  abbrev Explains : Outcome WorkAreas → Type 0
   Explains o = Behind (o .answer) (o .areas)
 
-  refused-so : {refusal p : ℕ} {areas : Areas} → Refuses bytes list ws cs area refusal p areas → Explains (substitute bytes list ws cs area)
+  refused-so : {refusal p : ℕ} {areas : WorkAreas} → SubstituteRefuses bytes list ws cs area refusal p areas → Explains (substitute bytes list ws cs area)
   refused-so d = subst Explains (sym (refuses-substitute bytes list ws cs area d)) d
 
-  pairs-tried : Room ws cs area → {s : Sum} {ps : List Pair} {last : ℕ} → PackedSum bytes s → readList variables list ≡ listed ps last
+  pairs-tried : WorkRoom ws cs area → {s : Sum} {ps : List Pair} {last : ℕ} → PackedSum bytes s → readList variables list ≡ listed ps last
       → Verdict ps s → Explains (substitute bytes list ws cs area)
   pairs-tried r {s} {ps} {last} read listed-so (first refusal j f) = refused-so (at-pair r read listed-so f)
   pairs-tried r {s} {ps} {last} read listed-so (all t a) =
@@ -131,11 +107,11 @@ module _ (bytes list ws : List ℕ) (cs : List ℤ) (area : List ℕ) (byte : (i
   explained : Explains (substitute bytes list ws cs area)
   explained = room (hasRoom ws cs area) refl
     where
-      pairs : Room ws cs area → {s : Sum} → PackedSum bytes s → (r : Listed (List Pair)) → readList variables list ≡ r → Explains (substitute bytes list ws cs area)
+      pairs : WorkRoom ws cs area → {s : Sum} → PackedSum bytes s → (r : Listed (List Pair)) → readList variables list ≡ r → Explains (substitute bytes list ws cs area)
       pairs h {s} read (listed ps last) e = pairs-tried h read e (verdict ps s)
       pairs h read (faulty what p) e = refused-so (at-list h read e)
 
-      sum : Room ws cs area → Reading bytes → Explains (substitute bytes list ws cs area)
+      sum : WorkRoom ws cs area → Reading bytes → Explains (substitute bytes list ws cs area)
       sum h (a-sum s read) = pairs h read (readList variables list) refl
       sum h (a-fault p f) = refused-so (at-sum h f)
 
@@ -143,9 +119,9 @@ module _ (bytes list ws : List ℕ) (cs : List ℤ) (area : List ℕ) (byte : (i
       room true h = sum (tested-room ws cs area h) (reading bytes byte)
       room false h = refused-so (no-room (tested-none ws cs area h))
 
-  pub substitute-means : {n : ℕ} {areas : Areas} → substitute bytes list ws cs area ≡ outcome (done n) areas → Substituted bytes list ws cs area n areas
+  pub substitute-means : {n : ℕ} {areas : WorkAreas} → substitute bytes list ws cs area ≡ outcome (done n) areas → Substituted bytes list ws cs area n areas
   substitute-means e = subst Explains e explained
 
-  pub substitute-refuses : {refusal p : ℕ} {areas : Areas} → substitute bytes list ws cs area ≡ outcome (refused refusal p) areas
-      → Refuses bytes list ws cs area refusal p areas
+  pub substitute-refuses : {refusal p : ℕ} {areas : WorkAreas} → substitute bytes list ws cs area ≡ outcome (refused refusal p) areas
+      → SubstituteRefuses bytes list ws cs area refusal p areas
   substitute-refuses e = subst Explains e explained

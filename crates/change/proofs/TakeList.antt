@@ -11,7 +11,7 @@ use Rattle.algebra.specs.Limits.{variables}
 use Rattle.numbers.specs.Item.{Item, Item.got}
 use Rattle.numbers.specs.Number.{readNumber}
 use Rattle.numbers.proofs.Items as items
-use Rattle.change.specs.Pairs.{Pair, Fault.damaged, Listed, Listed.listed, Listed.faulty, mapped, readPairs, toTheEnd, readList}
+use Rattle.change.specs.Pairs.{Pair, ListFault.damaged, Listed, Listed.listed, Listed.faulty, mapped, readPairs, toTheEnd, readList}
 use Rattle.change.specs.Inside.Kept.{listedOf, itemFault}
 use Rattle.change.specs.declared.lists.Listed as code
 use Rattle.change.specs.declared.lists.Listed.the-variants.{Pairs, Faulty}

@@ -17,7 +17,7 @@ use Rattle.packed.specs.ReadSum.{readSum}
 use Rattle.packed.proofs.Trip.{sum-written}
 use Rattle.packed.proofs.Taking.{ReadAt}
 use Rattle.sums.proofs.Parts.{span}
-use Rattle.change.specs.Pairs.{Pair, pair, Fault, Fault.unknown, Listed, Listed.listed, Listed.faulty, mapped, readPairs}
+use Rattle.change.specs.Pairs.{Pair, pair, ListFault, ListFault.unknown, Listed, Listed.listed, Listed.faulty, mapped, readPairs}
 use Rattle.change.specs.Inside.Kept.{itemFault, pairsFrom, Kept, KeepsRead}
 use Rattle.change.specs.declared.lists.Listed.the-variants as answer
 use Rattle.change.proofs.Reading.{never, then-got, provided-yes, mapped-listed, mapped-mapped, From, carry, Alike, Alike.both, alike-then, alike-provided, alike-mapped, alike-shown}

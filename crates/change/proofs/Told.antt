@@ -24,14 +24,14 @@ abbrev pub Ensured : Judged Sum → List ℕ → List ℤ → Told → Type 0
 Ensured judged ws cs answer = (answer ≡ termsTold judged) × HoldsGood judged ws cs
 
 -- a sum of n terms was judged good, and stands there
-pub record Stands (judged : Judged Sum) (ws : List ℕ) (cs : List ℤ) (n : ℕ) : Type 0 where
+pub record ToldAt (judged : Judged Sum) (ws : List ℕ) (cs : List ℤ) (n : ℕ) : Type 0 where
   pub sum : Sum
   pub is-good : judged ≡ good sum
   pub many : length sum ≡ n
   pub words-are : take n ws ≡ wordsOf sum
   pub coefficients-are : take n cs ≡ coefficientsOf sum
 
-pub stands-ensured : {judged : Judged Sum} {ws : List ℕ} {cs : List ℤ} {n : ℕ} → Stands judged ws cs n → Ensured judged ws cs (done n)
+pub stands-ensured : {judged : Judged Sum} {ws : List ℕ} {cs : List ℤ} {n : ℕ} → ToldAt judged ws cs n → Ensured judged ws cs (done n)
 stands-ensured {judged} s =
     let only : (t : Sum) → judged ≡ good t → s .sum ≡ t = λ t e. let both : good (s .sum) ≡ good t = sym (s .is-good) ∙ e in cc in (
       rw (s .is-good, s .many) refl,
@@ -41,7 +41,7 @@ stands-ensured {judged} s =
 -- ---- What the code answers, having held the sum in two areas.
 
 pub done-stands : (judged : Judged Sum) (ws₀ : List ℕ) (cs₀ : List ℤ) {ws : List ℕ} {cs : List ℤ} {n : ℕ} (r : Answer) → r ≡ Done n
-    → outcome (told r) (ws, cs) ≡ heldInto judged ws₀ cs₀ → Stands judged ws cs n
+    → outcome (told r) (ws, cs) ≡ heldInto judged ws₀ cs₀ → ToldAt judged ws cs n
 unfolding heldInto
 done-stands (fails refusal place) ws₀ cs₀ r is e = absurd (refused-done (sym (ap (λ o. o .answer) e) ∙ ap told is))
 done-stands (good s) ws₀ cs₀ {n = n} r is e =

@@ -33,16 +33,16 @@ listBytes ps = numberBytes (length ps) ++ pairsBytes ps
 -- ---- How it is read.
 
 -- what can be at fault: the list ends too soon, an item of it is bad or bytes are left over, or a number is no variable's
-pub data Fault : Type 0 where
-  ended : Fault
-  damaged : Fault
-  unknown : Fault
+pub data ListFault : Type 0 where
+  ended : ListFault
+  damaged : ListFault
+  unknown : ListFault
 
 pub data Listed (A : Type 0) : Type 0 where
   -- what was read, and the place after it
   listed : A → ℕ → Listed A
   -- what is at fault, and where
-  faulty : Fault → ℕ → Listed A
+  faulty : ListFault → ℕ → Listed A
 
 -- an item, and the list goes on
 unfoldable pub andThen : {A B : Type 0} → Item A → (A → ℕ → Listed B) → Listed B
@@ -51,7 +51,7 @@ andThen (cut place) f = faulty ended place
 andThen (bad place) f = faulty damaged place
 
 -- the list goes on if the test holds
-unfoldable pub provided : {A : Type 0} → Bool → Fault → ℕ → Listed A → Listed A
+unfoldable pub provided : {A : Type 0} → Bool → ListFault → ℕ → Listed A → Listed A
 provided true what place rest = rest
 provided false what place rest = faulty what place
 
@@ -84,7 +84,7 @@ readList n s =
 -- ---- How a fault is refused.
 
 -- a list that ends too soon and a damaged one are refused alike
-abbrev pub refusalOf : Fault → ℕ
+abbrev pub refusalOf : ListFault → ℕ
 refusalOf ended = LIST
 refusalOf damaged = LIST
 refusalOf unknown = VARIABLE

@@ -24,6 +24,6 @@ judgeSlope v s =
     (good result)))
 
 unfoldable pub slope : List ℕ → ℕ → List ℕ → Outcome (List ℕ)
-slope bytes v area =
-    check (leb (mostBytes variables) (length area)) ROOM 0 area
-    (packedInto (andThen (judged SUM (readWhole variables bytes)) (judgeSlope v)) area)
+slope bytes v result =
+    check (leb (mostBytes variables) (length result)) ROOM 0 result
+    (packedInto (andThen (judged SUM (readWhole variables bytes)) (judgeSlope v)) result)

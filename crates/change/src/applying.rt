@@ -13,7 +13,7 @@ ghost use Rattle.algebra.specs.Held.{firstTerms};
 ghost use Rattle.answers.specs.Answers.{told, outcome};
 ghost use Rattle.packed.specs.Result.{heldInto};
 ghost use Rattle.sums.specs.Asked.{Room};
-ghost use Rattle.pair.specs.Asked.{Given};
+ghost use Rattle.pair.specs.Asked.{CanPut};
 ghost use Rattle.change.specs.Pairs.{pair};
 ghost use Rattle.change.specs.Substitute.{judgePair, judgePairs};
 ghost use Rattle.change.specs.Inside.Kept.{pairsFrom, CanApply, termsTold, HoldsGood};
@@ -29,7 +29,7 @@ fn apply_pair(
     patterns: &mut [u64],
     coefficients: &mut [i64],
 ) -> Answer
-    requires { ⌜ Given v (now sp) (now sc) (now fp) (now fc) ⌝ }
+    requires { ⌜ CanPut v (now sp) (now sc) (now fp) (now fc) ⌝ }
     requires { ⌜ Room (now patterns) (now coefficients) ⌝ }
     ensures { λ r. ⌜ outcome (told r) (now (patterns .exit), now (coefficients .exit)) ≡ heldInto (judgePair j (pair v (terms (now (sp .entry)) (now (sc .entry)))) (terms (now (fp .entry)) (now (fc .entry)))) (now (patterns .entry)) (now (coefficients .entry)) ⌝ }
 {

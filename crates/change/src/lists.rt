@@ -9,7 +9,7 @@ ghost use Prim.Native.Nat.{_≤_};
 ghost use lib.ListN.{length, drop};
 ghost use Rattle.algebra.specs.Limits.{variables, workPlaces};
 ghost use Rattle.answers.specs.Answers.{told};
-ghost use Rattle.numbers.specs.Read.{itemOf};
+ghost use Rattle.numbers.specs.Inside.Read.{itemOf};
 ghost use Rattle.change.specs.Pairs.{mapped, readPairs, readList};
 ghost use Rattle.change.specs.Inside.Kept.{listedOf, itemFault, listFault, KeepsRead};
 

@@ -23,10 +23,12 @@ use Rattle.sums.proofs.Formed.{the-type}
 use Rattle.sums.proofs.Answering.{given, refused as refused-formed}
 use Rattle.answers.specs.Judge.{Judged.good, Judged.fails}
 use Rattle.nodes.specs.declared.Kind as code
-use Rattle.nodes.specs.Node.{kindOf, Kind, numbersOf, tableOf, isNode, foundOf}
+use Rattle.nodes.specs.Node.{Kind, numbersOf, tableOf, isNode}
+use Rattle.nodes.specs.Inside.Code.{kindOf, foundOf}
 use Rattle.nodes.specs.declared.Found as answer
 use Rattle.nodes.specs.declared.Found.the-variants.{Good, Fault as Faulty}
-use Rattle.nodes.specs.Formal.{formalDegree, formalWeight, nodeSpread, nodeSum, EachAtMost}
+use Rattle.nodes.specs.Formal.{formalDegree, formalWeight, nodeSpread, nodeSum}
+use Rattle.nodes.specs.Inside.Children.{EachAtMost}
 use Rattle.formula.specs.Table.{Entry, entry, degrees, weights, sums, entryOf, judgeNodes, isShape}
 use Rattle.formula.specs.Checks.{Passed, Passed.none, Passed.more, Fault, Fault.node as node-fault, Fault.degree as degree-fault, Fault.weight as weight-fault, Fault.spread as spread-fault}
 use Rattle.sums.specs.Part.{part}

@@ -4,9 +4,10 @@ use mathlib.Core.List.{List, [], _∷_, _++_}
 use Prim.Native.Nat.{ℕ, _-_, _^_}
 use lib.IntN.{ℤ, pos, negsuc}
 use lib.ListN.{replicate}
-use Rattle.answers.proofs.Tables.{Each, _also_}
+use Rattle.answers.proofs.Tables.{_also_}
+use Rattle.answers.specs.Promised.{Each}
 use Rattle.algebra.specs.Pattern.{times, degree, same, thenBy, byPowers, order}
-use Rattle.algebra.specs.Collect.{place, insert, gather, keep, dropZeros, collect, occurs, countNew, spread}
+use Rattle.algebra.specs.Collect.{settle, insert, gather, keep, dropZeros, collect, occurs, countNew, spread}
 use Rattle.algebra.specs.Arithmetic as arithmetic
 use Rattle.algebra.specs.Arithmetic.{row, pairs, _⊕_, sumSpread, _⊗_, productSpread, powerSpread}
 use Rattle.answers.specs.Refusals.{SHAPE, NODE, DEGREE, WEIGHT, SPREAD}
@@ -14,7 +15,7 @@ use Rattle.numbers.specs.Number.{groupsOf, numberBytes}
 use Rattle.numbers.specs.Code.{code}
 use Rattle.packed.specs.Packed.{exponentBytes, termBytes, bytesOfTerms, packed}
 use Rattle.answers.specs.Judge.{Judged, Judged.good, Judged.fails, holding, andThen}
-use Rattle.nodes.specs.Node.{Kind, Kind.integer, Kind.variable, Kind.sum, Kind.product, Kind.power, tableOf, isIn, readKind, readNode}
+use Rattle.nodes.specs.Node.{Kind, Kind.integer, Kind.variable, Kind.sum, Kind.product, Kind.power, tableOf, isIn, isKind, readNode}
 use Rattle.nodes.specs.Formal.{formalDegree, formalWeight, nodeSpread, nodeSum}
 use Rattle.formula.specs.Table.{Entry, judgeNode, judgeNodes, isShape, judgeTable}
 use Rattle.formula.specs.Simplify.{lastSum}
@@ -129,7 +130,7 @@ table =
     ∷ []
 
 pub cases-hold : Each Says table
-unfolding table packs stops unshaped broken a b minusOne none nothing tall rectangle ones largest tableOf isIn readKind readNode holding andThen judgeNode judgeNodes isShape judgeTable formalDegree formalWeight nodeSpread nodeSum times degree same thenBy byPowers order place insert gather keep dropZeros collect occurs countNew spread arithmetic.integer arithmetic.variable row pairs _⊕_ sumSpread _⊗_ productSpread arithmetic.power powerSpread groupsOf numberBytes code exponentBytes termBytes bytesOfTerms packed
+unfolding table packs stops unshaped broken a b minusOne none nothing tall rectangle ones largest tableOf isIn isKind readNode holding andThen judgeNode judgeNodes isShape judgeTable formalDegree formalWeight nodeSpread nodeSum times degree same thenBy byPowers order settle insert gather keep dropZeros collect occurs countNew spread arithmetic.integer arithmetic.variable row pairs _⊕_ sumSpread _⊗_ productSpread arithmetic.power powerSpread groupsOf numberBytes code exponentBytes termBytes bytesOfTerms packed
 cases-hold =
     refl
     also refl also refl also refl

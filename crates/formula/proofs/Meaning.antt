@@ -10,7 +10,7 @@ use Rattle.algebra.specs.Pattern.{Pattern}
 use Rattle.algebra.specs.Sum.{Sum, ordered}
 use Rattle.algebra.specs.Accepted.{Accepted}
 use Rattle.algebra.specs.Arithmetic as arithmetic
-use Rattle.algebra.specs.Value.{total, value, coefficient, splitPattern}
+use Rattle.algebra.specs.Value.{total, value, coefficient, splits, overSplits}
 use Rattle.algebra.proofs.Sums.Values.{integer-value, variable-value, sum-value, product-value, power-value}
 use Rattle.algebra.proofs.Sums.Coefficients.{integer-coefficient, unit-coefficient, variable-coefficient, sum-coefficient}
 use Rattle.algebra.proofs.Sums.Splits.{product-coefficient, power-coefficient}
@@ -105,7 +105,7 @@ power-repeated : (s : Sum) (f : Coefficients) → T (ordered variables s) → Ha
     → (e : ℕ) → HasCoefficients (arithmetic.power variables s e) (repeated f e)
 unfolding repeated
 power-repeated s f o h zero r = unfold arithmetic.power in unit-coefficient variables r
-power-repeated s f o h (suc e) r = power-coefficient variables s e o r ∙ (λ i. splitPattern (λ p q. power-repeated s f o h e p i *ℤ h q i) r)
+power-repeated s f o h (suc e) r = power-coefficient variables s e o r ∙ (λ i. overSplits (λ p q. power-repeated s f o h e p i *ℤ h q i) (splits r))
 
 coefficients-keep : Keeps HasCoefficients nowhere zero-coefficients nodeCoefficients
 unfolding nodeSum nodeCoefficients
@@ -115,7 +115,7 @@ coefficients-keep ss fs o h i (sum a b) t r = sum-coefficient (getD ss a []) (ge
 coefficients-keep ss fs o h i (product a b) t r =
     product-coefficient variables (getD ss a []) (getD ss b []) (ordered-variables variables (getD ss a []) (o a .isOrdered))
     (ordered-variables variables (getD ss b []) (o b .isOrdered)) r
-    ∙ (λ j. splitPattern (λ p q. h a p j *ℤ h b q j) r)
+    ∙ (λ j. overSplits (λ p q. h a p j *ℤ h b q j) (splits r))
 coefficients-keep ss fs o h i (power a e) t r = power-repeated (getD ss a []) (getD fs a nowhere) (o a .isOrdered) (h a) e r
 
 -- ---- The sum that ordinary algebra gives a formula.

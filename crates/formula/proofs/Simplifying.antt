@@ -16,13 +16,14 @@ use Rattle.answers.specs.Answers.{Told, Told.done, Told.refused, Outcome, outco
 use Rattle.answers.specs.Areas.{written, cleared}
 use Rattle.answers.specs.Judge.{Judged, Judged.good, andThen}
 use Rattle.packed.specs.Packed.{packed}
-use Rattle.packed.specs.Result.{Areas, packedInto, beside}
-use Rattle.packed.proofs.Working.{each-holds, Room, clearedWith, hasRoom, tested-room, tested-none, with-room, without-room}
+use Rattle.packed.specs.Result.{WorkAreas, packedInto, beside}
+use Rattle.packed.proofs.Working.{each-holds, hasRoom, tested-room, tested-none, worked, with-room, without-room}
+use Rattle.packed.specs.Promised.{WorkRoom, clearedWith}
 use Rattle.nodes.specs.Node.{Kind, tableOf}
 use Rattle.formula.specs.Table.{Entry, judgeNodes, isShape}
 use Rattle.formula.specs.Simplify.{lastSum, tableSum, simplify}
 use Rattle.formula.specs.Checks.{Passed, FirstFault}
-use Rattle.formula.specs.Meaning.{Means}
+use Rattle.formula.specs.Promised.{Simplified, SimplifyRefuses, SimplifyRefuses.no-room, SimplifyRefuses.no-shape, SimplifyRefuses.at-node}
 use Rattle.formula.proofs.Passing.{table-length, AllPass, all-judge, fault-judge, shape-judge, no-shape-judge, Verdict, Verdict.all, Verdict.first, verdict}
 use Rattle.formula.proofs.Meaning.{last-accepted, passed-means}
 
@@ -54,60 +55,42 @@ nodes-shape m some few =
 -- ---- The outcomes.
 
 module _ (table : List ℤ) (ws : List ℕ) (cs : List ℤ) (area : List ℕ) where
-  -- it is done: every check passes, and the sum is what ordinary algebra gives the table's formula
-  pub record Simplified (n : ℕ) (areas : Areas) : Type 0 where
-    pub ks : List Kind
-    pub entries : List Entry
-    pub sum : Sum
-    pub room : Room ws cs area
-    pub table-is : table ≡ tableOf ks
-    pub some : 0 < length ks
-    pub few : length ks ≤ mostNodes
-    pub passed : Passed ks entries
-    pub sum-is : sum ≡ lastSum entries
-    pub means : Means ks sum
-    pub accepted : Accepted variables sum
-    pub many : n ≡ length (packed sum)
-    pub areas-are : areas ≡ clearedWith ws cs (written (packed sum) area)
-
-  -- it is refused: the refusal, its place, and the areas
-  pub data Refuses : ℕ → ℕ → Areas → Type 0 where
-    no-room : (Room ws cs area → ⊥) → Refuses ROOM 0 (ws, cs, area)
-    no-shape : Room ws cs area → isShape (length table) ≡ false → Refuses SHAPE 0 (clearedWith ws cs area)
-    at-node : {refusal p : ℕ} → Room ws cs area → isShape (length table) ≡ true → FirstFault table refusal p → Refuses refusal p (clearedWith ws cs area)
+  -- what it leaves is what any operation with work areas leaves that has judged this sum
+  pub simplify-worked : simplify table ws cs area ≡ worked ws cs area (tableSum table)
+  unfolding simplify worked
+  simplify-worked = refl
 
   -- ---- Check by check.
 
   -- the nodes have been judged, whatever came of it
-  after-shape : Room ws cs area → isShape (length table) ≡ true → {j : Judged (List Entry)} → judgeNodes [] table ≡ j
+  after-shape : WorkRoom ws cs area → isShape (length table) ≡ true → {j : Judged (List Entry)} → judgeNodes [] table ≡ j
       → simplify table ws cs area
       ≡ beside (cleared 0 workPlaces ws) (cleared (pos 0) workPlaces cs) (packedInto (andThen j (λ nodes. good (lastSum nodes))) area)
-  unfolding simplify tableSum
-  after-shape r s e = with-room _ ws cs area r ∙ rw (shape-judge table s, e)
+  unfolding tableSum
+  after-shape r s e = simplify-worked ∙ with-room (tableSum table) ws cs area r ∙ rw (shape-judge table s, e)
 
-  after-nodes : Room ws cs area → isShape (length table) ≡ true → {es : List Entry} → AllPass table es
+  after-nodes : WorkRoom ws cs area → isShape (length table) ≡ true → {es : List Entry} → AllPass table es
       → let bytes = packed (lastSum es) in simplify table ws cs area ≡ outcome (done (length bytes)) (clearedWith ws cs (written bytes area))
   unfolding packedInto andThen
   after-nodes r s a = after-shape r s (all-judge a)
 
-  without-shape : Room ws cs area → isShape (length table) ≡ false → simplify table ws cs area ≡ outcome (refused SHAPE 0) (clearedWith ws cs area)
-  unfolding simplify tableSum packedInto andThen
-  without-shape r s = with-room _ ws cs area r ∙ rw (no-shape-judge table s)
+  without-shape : WorkRoom ws cs area → isShape (length table) ≡ false → simplify table ws cs area ≡ outcome (refused SHAPE 0) (clearedWith ws cs area)
+  unfolding tableSum packedInto andThen
+  without-shape r s = simplify-worked ∙ with-room (tableSum table) ws cs area r ∙ rw (no-shape-judge table s)
 
-  at-fault : {refusal p : ℕ} → Room ws cs area → isShape (length table) ≡ true → FirstFault table refusal p
+  at-fault : {refusal p : ℕ} → WorkRoom ws cs area → isShape (length table) ≡ true → FirstFault table refusal p
       → simplify table ws cs area ≡ outcome (refused refusal p) (clearedWith ws cs area)
   unfolding packedInto andThen
   at-fault r s f = after-shape r s (fault-judge f)
 
-  pub refuses-simplify : {refusal p : ℕ} {areas : Areas} → Refuses refusal p areas → simplify table ws cs area ≡ outcome (refused refusal p) areas
-  unfolding simplify
-  refuses-simplify (no-room f) = without-room (tableSum table) ws cs area f
+  pub refuses-simplify : {refusal p : ℕ} {areas : WorkAreas} → SimplifyRefuses table ws cs area refusal p areas → simplify table ws cs area ≡ outcome (refused refusal p) areas
+  refuses-simplify (no-room f) = simplify-worked ∙ without-room (tableSum table) ws cs area f
   refuses-simplify (no-shape r s) = without-shape r s
   refuses-simplify (at-node r s f) = at-fault r s f
 
 -- nodes that all pass are accepted
 pub simplify-accepts : {ks : List Kind} {es : List Entry} (ws : List ℕ) (cs : List ℤ) (area : List ℕ)
-    → Room ws cs area → Passed ks es → 0 < length ks → length ks ≤ mostNodes
+    → WorkRoom ws cs area → Passed ks es → 0 < length ks → length ks ≤ mostNodes
     → let bytes = packed (lastSum es) in simplify (tableOf ks) ws cs area ≡ outcome (done (length bytes)) (clearedWith ws cs (written bytes area))
 simplify-accepts {ks} ws cs area r p some few =
     after-nodes (tableOf ks) ws cs area r (ap isShape (table-length ks) ∙ nodes-shape (length ks) some few) (record { ks = ks; table-is = refl; passed = p })
@@ -116,17 +99,17 @@ simplify-accepts {ks} ws cs area r p some few =
 
 module _ (table : List ℤ) (ws : List ℕ) (cs : List ℤ) (area : List ℕ) where
   -- what stands behind an answer, and behind an outcome
-  abbrev Behind : Told → Areas → Type 0
+  abbrev Behind : Told → WorkAreas → Type 0
   Behind (done n) areas = Simplified table ws cs area n areas
-  Behind (refused refusal p) areas = Refuses table ws cs area refusal p areas
+  Behind (refused refusal p) areas = SimplifyRefuses table ws cs area refusal p areas
 
-  abbrev Explains : Outcome Areas → Type 0
+  abbrev Explains : Outcome WorkAreas → Type 0
   Explains o = Behind (o .answer) (o .areas)
 
-  refused-so : {refusal p : ℕ} {areas : Areas} → Refuses table ws cs area refusal p areas → Explains (simplify table ws cs area)
+  refused-so : {refusal p : ℕ} {areas : WorkAreas} → SimplifyRefuses table ws cs area refusal p areas → Explains (simplify table ws cs area)
   refused-so d = subst Explains (sym (refuses-simplify table ws cs area d)) d
 
-  judged : Room ws cs area → isShape (length table) ≡ true → Verdict table → Explains (simplify table ws cs area)
+  judged : WorkRoom ws cs area → isShape (length table) ≡ true → Verdict table → Explains (simplify table ws cs area)
   judged r s (all es a) =
       let shape = shape-says (length table) s in
       let three-each = ap length (a .table-is) ∙ table-length (a .ks) in
@@ -156,9 +139,9 @@ module _ (table : List ℤ) (ws : List ℕ) (cs : List ℤ) (area : List ℕ) wh
       go true r false s = refused-so (no-shape (tested-room ws cs area r) s)
       go false r c s = refused-so (no-room (tested-none ws cs area r))
 
-  pub simplify-means : {n : ℕ} {areas : Areas} → simplify table ws cs area ≡ outcome (done n) areas → Simplified table ws cs area n areas
+  pub simplify-means : {n : ℕ} {areas : WorkAreas} → simplify table ws cs area ≡ outcome (done n) areas → Simplified table ws cs area n areas
   simplify-means e = subst Explains e explained
 
-  pub simplify-refuses : {refusal p : ℕ} {areas : Areas} → simplify table ws cs area ≡ outcome (refused refusal p) areas
-      → Refuses table ws cs area refusal p areas
+  pub simplify-refuses : {refusal p : ℕ} {areas : WorkAreas} → simplify table ws cs area ≡ outcome (refused refusal p) areas
+      → SimplifyRefuses table ws cs area refusal p areas
   simplify-refuses e = subst Explains e explained

@@ -13,7 +13,7 @@ use Rattle.algebra.specs.Word.{terms}
 use Rattle.algebra.specs.Held.{wordsOf, coefficientsOf}
 use Rattle.answers.proofs.Writes.{written-front}
 use Rattle.sums.proofs.Holding.{spells, holds-sum, accepted-holdable}
-use Rattle.sums.proofs.Answering.{Given}
+use Rattle.sums.proofs.Answering.{Known}
 use Rattle.sums.specs.Part.{part}
 use Rattle.answers.specs.Judge.{Judged, Judged.good, Judged.fails}
 use Rattle.formula.specs.Table.{Entry, entry, sums}
@@ -25,18 +25,18 @@ use Rattle.sums.proofs.Parts.{part-before}
 use Rattle.nodes.proofs.Working.{sums-length, sum-there}
 
 -- the sum s stands in the first n places of the part of node j
-pub record Stands (n j : ℕ) (ws : List ℕ) (cs : List ℤ) (s : Sum) : Type 0 where
+pub record KeptAt (n j : ℕ) (ws : List ℕ) (cs : List ℤ) (s : Sum) : Type 0 where
   pub many : length s ≡ n
   pub words-are : take n (part j ws) ≡ wordsOf s
   pub coefficients-are : take n (part j cs) ≡ coefficientsOf s
 
 -- that of each node, ns having the numbers of terms
 abbrev pub AllStand : List Entry → List ℕ → List ℕ → List ℤ → Type 0
-AllStand es ns ws cs = (j : ℕ) → j < length es → Stands (getD ns j 0) j ws cs (nodeAt es j .sum)
+AllStand es ns ws cs = (j : ℕ) → j < length es → KeptAt (getD ns j 0) j ws cs (nodeAt es j .sum)
 
 -- a sum that was formed into the part of node i
 pub given-stands : {n : ℕ} (i : ℕ) (ws : List ℕ) (cs : List ℤ) (ws' : List ℕ) (cs' : List ℤ) (spread : ℕ) (s : Sum)
-    → Given spread s (part i ws) (part i cs) (part i ws') (part i cs') n → Stands n i ws' cs' s
+    → Known spread s (part i ws) (part i cs) (part i ws') (part i cs') n → KeptAt n i ws' cs' s
 given-stands i ws cs ws' cs' spread s g = record {
   many = g .many;
   words-are = written-front (wordsOf s) (part i ws) (g .words-are) (length-map s _ ∙ g .many) .0;
@@ -69,14 +69,14 @@ module _ (es : List Entry) {i : ℕ} (count : length es ≡ i) (ns ws : List ℕ
   pub stand-more : (e : Entry) (n : ℕ) (ws' : List ℕ) (cs' : List ℤ) → i < length ns
       → take (mostTerms * i) ws' ≡ take (mostTerms * i) ws
       → take (mostTerms * i) cs' ≡ take (mostTerms * i) cs
-      → Stands n i ws' cs' (e .sum)
+      → KeptAt n i ws' cs' (e .sum)
       → AllStand (es ++ (e ∷ [])) (set ns i n) ws' cs'
   stand-more e n ws' cs' room words coefficients s j h = go (decLt j i)
     where
       last : length (es ++ (e ∷ [])) ≡ length es + 1
       last = length-append es (e ∷ [])
 
-      go : Dec (j < i) → Stands (getD (set ns i n) j 0) j ws' cs' (nodeAt (es ++ (e ∷ [])) j .sum)
+      go : Dec (j < i) → KeptAt (getD (set ns i n) j 0) j ws' cs' (nodeAt (es ++ (e ∷ [])) j .sum)
       go (yes k) =
           let there : j < length es = omega (arith, count) in
           rw (getD-set-other ns i j n 0 (λ same. omega arith), List·getD-append es (e ∷ []) (entry 0 0 []) j there)
@@ -91,7 +91,7 @@ module _ (es : List Entry) {i : ℕ} (count : length es ≡ i) (ns ws : List ℕ
 
 -- the last of them
 pub stand-last : (es : List Entry) (ns ws : List ℕ) (cs : List ℤ) → AllStand es ns ws cs → 0 < length es
-    → Stands (length (lastSum es)) (length es - 1) ws cs (lastSum es)
+    → KeptAt (length (lastSum es)) (length es - 1) ws cs (lastSum es)
 stand-last es ns ws cs stand some =
     let j = length es - 1 in
     let s = stand j (omega arith) in
@@ -102,14 +102,14 @@ stand-last es ns ws cs stand some =
     })
 
 pub last-keeps : {judged : Judged (List Entry)} {es : List Entry} {ws : List ℕ} {cs : List ℤ} → judged ≡ good es
-    → Stands (length (lastSum es)) (length es - 1) ws cs (lastSum es) → KeepsLast judged ws cs
+    → KeptAt (length (lastSum es)) (length es - 1) ws cs (lastSum es) → KeepsLast judged ws cs
 last-keeps {es = es} {ws = ws} {cs = cs} are s = record {
   words-are = λ nodes is. last nodes (cc) .words-are;
   coefficients-are = λ nodes is. last nodes (cc) .coefficients-are;
 }
   where
-    last : (nodes : List Entry) → es ≡ nodes → Stands (length (lastSum nodes)) (length nodes - 1) ws cs (lastSum nodes)
-    last nodes same = subst (λ l. Stands (length (lastSum l)) (length l - 1) ws cs (lastSum l)) same s
+    last : (nodes : List Entry) → es ≡ nodes → KeptAt (length (lastSum nodes)) (length nodes - 1) ws cs (lastSum nodes)
+    last nodes same = subst (λ l. KeptAt (length (lastSum l)) (length l - 1) ws cs (lastSum l)) same s
 
 -- nothing is said of the parts where a node is refused
 pub none-keeps : {judged : Judged (List Entry)} {refusal p : ℕ} {ws : List ℕ} {cs : List ℤ} → judged ≡ fails refusal p → KeepsLast judged ws cs

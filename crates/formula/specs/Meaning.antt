@@ -9,7 +9,7 @@ use lib.ListN.{length, getD, set}
 use Rattle.algebra.specs.Limits.{variables}
 use Rattle.algebra.specs.Pattern.{Pattern, emptyPattern, same}
 use Rattle.algebra.specs.Sum.{Sum, ordered}
-use Rattle.algebra.specs.Value.{value, onlyIf, coefficient, splitPattern}
+use Rattle.algebra.specs.Value.{value, onlyIf, coefficient, splits, overSplits}
 use Rattle.nodes.specs.Node.{Kind, Kind.integer, Kind.variable, Kind.sum, Kind.product, Kind.power}
 
 -- what each node gives, by what the nodes before it gave
@@ -47,7 +47,7 @@ only n p r = onlyIf (same r p) n
 
 -- of a product: over all ways to split the pattern in two
 abbrev pub split : Coefficients → Coefficients → Coefficients
-split f g r = splitPattern (λ p q. f p *ℤ g q) r
+split f g r = overSplits (λ p q. f p *ℤ g q) (splits r)
 
 -- of a power: of a repeated product
 unfoldable pub repeated : Coefficients → ℕ → Coefficients

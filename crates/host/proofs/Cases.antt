@@ -9,7 +9,7 @@ use Rattle.algebra.specs.Limits.{variables, mostTerms, workPlaces}
 use Rattle.algebra.specs.Pattern.{times, degree, same, thenBy, byPowers, order}
 use Rattle.algebra.specs.Sum.{degreeOf, weight}
 use Rattle.algebra.specs.Word.{wordOf, fieldsOf, termsBy, word, exponents, terms, isValid}
-use Rattle.algebra.specs.Collect.{place, insert, gather, keep, dropZeros, collect, occurs, countNew, spread}
+use Rattle.algebra.specs.Collect.{settle, insert, gather, keep, dropZeros, collect, occurs, countNew, spread}
 use Rattle.algebra.specs.Arithmetic as arithmetic
 use Rattle.algebra.specs.Arithmetic.{row, pairs, _⊕_, sumSpread, _⊗_, productSpread, powerSpread}
 use Rattle.algebra.specs.Slope as algebra-slope
@@ -17,20 +17,21 @@ use Rattle.algebra.specs.Substitute as algebra-substitute
 use Rattle.algebra.specs.Substitute.{rows, pairRows, pairDegree, pairWeight, largestPower, pairSpread}
 use Rattle.answers.specs.Refusals.{ROOM, SHAPE, DEGREE, SUM, LIST, VARIABLE, TEXT}
 use Rattle.answers.specs.Answers.{Told, Told.done, Told.refused, Outcome}
-use Rattle.answers.specs.Host.{hosted}
+use Rattle.answers.specs.Host.{hosted, wideUnit, heard}
 use Rattle.answers.specs.Judge.{holding, andThen}
 use Rattle.answers.specs.Quoted.{quoted}
-use Rattle.answers.proofs.Tables.{Each, _also_}
+use Rattle.answers.proofs.Tables.{_also_}
+use Rattle.answers.specs.Promised.{Each}
 use Rattle.numbers.specs.Item as item
 use Rattle.numbers.specs.Number.{groupsOf, numberBytes, readByte, readGroups, readNumber}
 use Rattle.numbers.specs.Code.{code, decode}
 use Rattle.packed.specs.Packed.{exponentBytes, termBytes, bytesOfTerms, packed, mostBytes}
 use Rattle.packed.specs.Judge.{weighs, follows}
 use Rattle.packed.specs.ReadSum.{readCoefficient, readExponents, readTerm, readTerms, readSum, readWhole}
-use Rattle.packed.specs.Result.{heldInto, packedInto, worked}
+use Rattle.packed.specs.Result.{heldInto, packedInto}
 use Rattle.packed.specs.Unpack.{unpack}
 use Rattle.packed.specs.Pack.{isGood, goodTerms, pack}
-use Rattle.nodes.specs.Node.{Kind, Kind.variable, Kind.product, Kind.power, tableOf, isIn, readKind, readNode}
+use Rattle.nodes.specs.Node.{Kind, Kind.variable, Kind.product, Kind.power, tableOf, isIn, isKind, readNode}
 use Rattle.nodes.specs.Formal.{formalDegree, formalWeight, nodeSpread, nodeSum}
 use Rattle.formula.specs.Table.{judgeNode, judgeNodes, isShape, judgeTable}
 use Rattle.formula.specs.Simplify.{tableSum, simplify}
@@ -44,7 +45,6 @@ use Rattle.change.specs.Slope.{judgeSlope, slope}
 use Rattle.change.specs.Pairs as listing
 use Rattle.change.specs.Pairs.{readPairs, toTheEnd, readList}
 use Rattle.change.specs.Substitute.{judgePair, judgePairs, judgeSubstitute, substitute}
-use Rattle.host.specs.Unit.{hostUnit, heard}
 
 -- ---- A case is a call with its number, and what that tells. The lent areas have just the places that they need, or so many as the case says.
 
@@ -63,7 +63,7 @@ pub data Case : Type 0 where
   puts : List ℕ → List ℕ → ℕ → Told → Case
 
 abbrev pub Gets : {Areas : Type 0} → Outcome Areas → ℕ → Told → Type 0
-Gets o number t = (hosted hostUnit o .0 ≡ number) × (heard number ≡ t)
+Gets o number t = (hosted wideUnit o .0 ≡ number) × (heard number ≡ t)
 
 abbrev pub words : ℕ → List ℕ
 words n = replicate n 7
@@ -118,7 +118,7 @@ table =
     ∷ []
 
 pub cases-hold : Each Says table
-unfolding table two square quoted times degree same thenBy byPowers order degreeOf weight wordOf fieldsOf termsBy word exponents terms isValid place insert gather keep dropZeros collect occurs countNew spread row pairs _⊕_ sumSpread _⊗_ productSpread arithmetic.variable arithmetic.power powerSpread algebra-slope.slope rows pairRows algebra-substitute.substitute pairDegree pairWeight largestPower pairSpread holding andThen item.andThen item.provided item.mapped groupsOf numberBytes readByte readGroups readNumber code decode exponentBytes termBytes bytesOfTerms packed weighs follows readCoefficient readExponents readTerm readTerms readSum readWhole heldInto packedInto worked unpack isGood goodTerms pack tableOf isIn readKind readNode formalDegree formalWeight nodeSpread nodeSum judgeNode judgeNodes isShape judgeTable tableSum simplify isDigit letterOf size nodesOf reader.takes reader.moreDigits reader.digitsAt reader.readAtom reader.readExponent reader.readFactor reader.readMore reader.isTimes reader.readTerm reader.isSign reader.signed reader.afterMinus reader.readSum reader.inBrackets reader.readWhole judgeText tableInto readFormula judgeSlope slope listing.andThen listing.provided listing.mapped readPairs toTheEnd readList judgePair judgePairs judgeSubstitute substitute
+unfolding table two square quoted times degree same thenBy byPowers order degreeOf weight wordOf fieldsOf termsBy word exponents terms isValid settle insert gather keep dropZeros collect occurs countNew spread row pairs _⊕_ sumSpread _⊗_ productSpread arithmetic.variable arithmetic.power powerSpread algebra-slope.slope rows pairRows algebra-substitute.substitute pairDegree pairWeight largestPower pairSpread holding andThen item.andThen item.provided item.mapped groupsOf numberBytes readByte readGroups readNumber code decode exponentBytes termBytes bytesOfTerms packed weighs follows readCoefficient readExponents readTerm readTerms readSum readWhole heldInto packedInto unpack isGood goodTerms pack tableOf isIn isKind readNode formalDegree formalWeight nodeSpread nodeSum judgeNode judgeNodes isShape judgeTable tableSum simplify isDigit letterOf size nodesOf reader.takes reader.moreDigits reader.digitsAt reader.readAtom reader.readExponent reader.readFactor reader.readMore reader.isTimes reader.readTerm reader.isSign reader.signed reader.afterMinus reader.readSum reader.inBrackets reader.readWhole judgeText tableInto readFormula judgeSlope slope listing.andThen listing.provided listing.mapped readPairs toTheEnd readList judgePair judgePairs judgeSubstitute substitute
 cases-hold =
     (refl, refl) also (refl, refl) also (refl, refl)
     also (refl, refl) also (refl, refl) also (refl, refl)

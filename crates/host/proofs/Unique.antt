@@ -4,8 +4,9 @@ use mathlib.Core.List.{List}
 use Prim.Native.Nat.{ℕ}
 use lib.IntN.{ℤ}
 use denote.Ref.{now}
-use Rattle.answers.proofs.Outcomes.{OneLent, same}
-use Rattle.packed.specs.Result.{Areas}
+use Rattle.answers.proofs.Outcomes.{same}
+use Rattle.answers.specs.Promised.{OneLent}
+use Rattle.packed.specs.Result.{WorkAreas}
 use Rattle.host.proofs.reeveboom_text.Reads as text
 use Rattle.host.proofs.reeveboom_simplify.Reads as simplify
 use Rattle.host.proofs.reeveboom_unpack.Reads as unpack
@@ -22,7 +23,7 @@ pub reeveboom-text-one : OneLent text.Learnt (λ k e. now (e .1 .0))
 reeveboom-text-one k a r r' e e' h h' = number-one (same h h')
 
 -- the result area is the second argument here, and the work areas come after it
-pub reeveboom-simplify-one : OneLent simplify.Learnt {L = Areas} (λ k e. (now (e .1 .1 .0), now (e .1 .1 .1 .0), now (e .1 .0)))
+pub reeveboom-simplify-one : OneLent simplify.Learnt {L = WorkAreas} (λ k e. (now (e .1 .1 .0), now (e .1 .1 .1 .0), now (e .1 .0)))
 reeveboom-simplify-one k a r r' e e' h h' = number-one (same h h')
 
 pub reeveboom-unpack-one : OneLent unpack.Learnt {L = List ℕ × List ℤ} (λ k e. (now (e .1 .0), now (e .1 .1 .0)))
@@ -34,7 +35,7 @@ reeveboom-pack-one k a r r' e e' h h' = number-one (same h h')
 pub reeveboom-slope-one : OneLent slope.Learnt (λ k e. now (e .1 .1 .0))
 reeveboom-slope-one k a r r' e e' h h' = number-one (same h h')
 
-pub reeveboom-substitute-one : OneLent substitute.Learnt {L = Areas} (λ k e. (now (e .1 .1 .1 .0), now (e .1 .1 .1 .1 .0), now (e .1 .1 .0)))
+pub reeveboom-substitute-one : OneLent substitute.Learnt {L = WorkAreas} (λ k e. (now (e .1 .1 .1 .0), now (e .1 .1 .1 .1 .0), now (e .1 .1 .0)))
 reeveboom-substitute-one k a r r' e e' h h' = number-one (same h h')
 
 pub reeveboom-estimate-one : OneLent estimate.Learnt (λ k e. now (e .1 .1 .1 .0))

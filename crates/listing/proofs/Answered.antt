@@ -20,8 +20,9 @@ use Rattle.answers.specs.declared.Refusal.{Refusal}
 use Rattle.answers.proofs.Writes.{written-front}
 use Rattle.packed.specs.Unpack.{unpack}
 use Rattle.packed.specs.Packed.{packed}
-use Rattle.packed.specs.Result.{Areas, packedInto, beside}
-use Rattle.packed.proofs.Working.{Room, with-room}
+use Rattle.packed.specs.Result.{WorkAreas, packedInto, beside}
+use Rattle.packed.proofs.Working.{with-room}
+use Rattle.packed.specs.Promised.{WorkRoom}
 use Rattle.packed.proofs.Inverse.{unpack-accepts}
 use Rattle.packed.proofs.Results.{written-terms}
 use Rattle.answers.specs.Judge.{Judged, Judged.good, Judged.fails, andThen}
@@ -55,9 +56,9 @@ pub record Terms (sum : Sum) (count : ℕ) (ws : List ℕ) (cs : List ℤ) : Typ
 
 module _ (bytes ws : List ℕ) (cs : List ℤ) (words-room : mostTerms ≤ length ws) (coefficients-room : mostTerms ≤ length cs) (a : Answer)
     {ws' : List ℕ} {cs' : List ℤ} (e : outcome (told a) (ws', cs') ≡ unpack bytes ws cs) {s : Sum} (p : Packs bytes s) where
-  gives : {t : Told} → told a ≡ t → outcome {Areas = List ℕ × List ℤ} t (ws', cs') ≡ outcome (done (length s)) (written (wordsOf s) ws, written (coefficientsOf s) cs)
+  gives : {t : Told} → told a ≡ t → outcome {WorkAreas = List ℕ × List ℤ} t (ws', cs') ≡ outcome (done (length s)) (written (wordsOf s) ws, written (coefficientsOf s) cs)
   gives f =
-      ap (λ (t : Told). outcome {Areas = List ℕ × List ℤ} t (ws', cs')) (sym f) ∙ e ∙ ap (λ (l : List ℕ). unpack l ws cs) (p .bytes-are)
+      ap (λ (t : Told). outcome {WorkAreas = List ℕ × List ℤ} t (ws', cs')) (sym f) ∙ e ∙ ap (λ (l : List ℕ). unpack l ws cs) (p .bytes-are)
       ∙ unpack-accepts s ws cs (p .accepted) words-room coefficients-room
 
   pub unpacked : {count : ℕ} → a ≡ Done count → Terms s count ws' cs'
@@ -93,7 +94,7 @@ judged-passes table nodes e = go (isShape (length table)) refl
         judge-says table three (sym (shape-judge table s) ∙ e)
     go false s = absurd (good-fails (sym e ∙ no-shape-judge table s))
 
-module _ (table : List ℤ) (ws : List ℕ) (cs : List ℤ) (area : List ℕ) (room : Room ws cs area) (a : Answer) {ws' : List ℕ} {cs' : List ℤ} {area' : List ℕ}
+module _ (table : List ℤ) (ws : List ℕ) (cs : List ℤ) (area : List ℕ) (room : WorkRoom ws cs area) (a : Answer) {ws' : List ℕ} {cs' : List ℤ} {area' : List ℕ}
     (e : outcome (told a) (ws', cs', area') ≡ simplify table ws cs area) where
   judged : {t : Told} → told a ≡ t → outcome t (ws', cs', area') ≡ beside (cleared 0 workPlaces ws) (cleared (pos 0) workPlaces cs) (packedInto (tableSum table) area)
   unfolding simplify
@@ -108,7 +109,7 @@ module _ (table : List ℤ) (ws : List ℕ) (cs : List ℤ) (area : List ℕ) (r
           → Simple table n area'
       go (good nodes) is f =
           let s = lastSum nodes in
-          let front = written-front (packed s) area (ap (λ (x : Areas). x .2) (done-same f .1)) (sym (done-same f .0)) in
+          let front = written-front (packed s) area (ap (λ (x : WorkAreas). x .2) (done-same f .1)) (sym (done-same f .0)) in
           record {
             sum = s;
             is = rw is;

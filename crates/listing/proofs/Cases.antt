@@ -2,13 +2,14 @@
 use mathlib.Core.Path.{_≡_, refl}
 use mathlib.Core.List.{List, [], _∷_}
 use Prim.Native.String.{String}
-use Rattle.answers.proofs.Tables.{Each, _also_}
+use Rattle.answers.proofs.Tables.{_also_}
+use Rattle.answers.specs.Promised.{Each}
 use Rattle.algebra.specs.Pattern.{times, degree, same, thenBy, byPowers, order}
-use Rattle.algebra.specs.Collect.{place, insert, gather, keep, dropZeros, collect, occurs, countNew, spread}
+use Rattle.algebra.specs.Collect.{settle, insert, gather, keep, dropZeros, collect, occurs, countNew, spread}
 use Rattle.algebra.specs.Arithmetic as arithmetic
 use Rattle.algebra.specs.Arithmetic.{row, pairs, _⊕_, sumSpread, _⊗_, productSpread, powerSpread}
 use Rattle.answers.specs.Judge.{holding, andThen}
-use Rattle.nodes.specs.Node.{tableOf, isIn, readKind, readNode}
+use Rattle.nodes.specs.Node.{tableOf, isIn, isKind, readNode}
 use Rattle.nodes.specs.Formal.{formalDegree, formalWeight, nodeSpread, nodeSum}
 use Rattle.formula.specs.Table.{judgeNode, judgeNodes, isShape, judgeTable}
 use Rattle.answers.specs.Quoted.{quoted}
@@ -49,5 +50,5 @@ table =
     ∷ []
 
 pub cases-hold : Each Says table
-unfolding table prints quoted withoutNewline textSum tableSum listed sumLines refusalLine numbered termLines termLine exponentsLine signedDecimal decimal digitsOf judgeText readWhole inBrackets readSum afterMinus signed isSign readTerm isTimes readMore readFactor readExponent readAtom digitsAt moreDigits takes letterOf isDigit size nodesOf judgeTable isShape judgeNodes judgeNode holding andThen tableOf isIn readKind readNode formalDegree formalWeight nodeSpread nodeSum times degree same thenBy byPowers order place insert gather keep dropZeros collect occurs countNew spread arithmetic.integer arithmetic.variable row pairs _⊕_ sumSpread _⊗_ productSpread arithmetic.power powerSpread
+unfolding table prints quoted withoutNewline textSum tableSum listed sumLines refusalLine numbered termLines termLine exponentsLine signedDecimal decimal digitsOf judgeText readWhole inBrackets readSum afterMinus signed isSign readTerm isTimes readMore readFactor readExponent readAtom digitsAt moreDigits takes letterOf isDigit size nodesOf judgeTable isShape judgeNodes judgeNode holding andThen tableOf isIn isKind readNode formalDegree formalWeight nodeSpread nodeSum times degree same thenBy byPowers order settle insert gather keep dropZeros collect occurs countNew spread arithmetic.integer arithmetic.variable row pairs _⊕_ sumSpread _⊗_ productSpread arithmetic.power powerSpread
 cases-hold = refl also refl also refl also refl also refl also refl also refl also refl also tt

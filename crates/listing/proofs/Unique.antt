@@ -1,6 +1,7 @@
 -- Each public function's contract leaves one outcome, as its caller sees it: the answer, and every place of the lent area.
 use denote.Ref.{now}
-use Rattle.answers.proofs.Outcomes.{One, OneLent, same}
+use Rattle.answers.proofs.Outcomes.{same}
+use Rattle.answers.specs.Promised.{One, OneLent}
 use Rattle.answers.proofs.Unique.{outcome-one}
 use Rattle.listing.proofs.list.Reads as list
 use Rattle.listing.proofs.most_input.Reads as most-input

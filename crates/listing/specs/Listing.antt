@@ -31,6 +31,6 @@ list input area =
     let lines = listed (textSum (withoutNewline input)) in
     check (leb (mostLines variables) (length area)) ROOM 0 area (outcome (done (length lines)) (written lines area))
 
--- no more of an input need be read: the longest text, and two bytes more
+-- no more of an input need be read: the longest text, and two bytes more, 1,026 in all
 abbrev pub mostInput : ℕ
 mostInput = longestText + 2

@@ -6,7 +6,8 @@ use Prim.Native.Nat.{ℕ, _≤_, _<_}
 use lib.Dec.{T, ltb, leb, ltb→lt, leb→le}
 use Rattle.algebra.specs.Limits.{variables, largestDegree}
 use lib.Ieee.Fits.{and-l, and-r}
-use Rattle.nodes.specs.Node.{kindOf, isNode}
+use Rattle.nodes.specs.Node.{isNode}
+use Rattle.nodes.specs.Inside.Code.{kindOf}
 use Rattle.nodes.specs.Formal.{formalDegree, formalWeight}
 use Rattle.nodes.specs.declared.Kind.{Kind}
 use Rattle.nodes.specs.declared.Kind.the-variants.{Variable, Sum, Product, Power}

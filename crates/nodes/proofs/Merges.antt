@@ -12,8 +12,8 @@ use Rattle.algebra.specs.Limits.{mostTerms, largestWeight}
 use Rattle.algebra.specs.Pattern.{Pattern, order}
 use Rattle.algebra.specs.Sum.{Term, term, Sum, isZero, weight}
 use Rattle.algebra.specs.Arithmetic.{_⊕_, sumSpread}
-use Rattle.algebra.specs.Word.{exponents, Valid}
-use Rattle.algebra.specs.Held.{wordFor, wordsOf, coefficientsOf}
+use Rattle.algebra.specs.Word.{word, exponents, Valid}
+use Rattle.algebra.specs.Held.{wordsOf, coefficientsOf}
 use Rattle.algebra.proofs.Numbers.Absolute.{abs-add}
 use Rattle.algebra.proofs.Sums.Results.{sum-length}
 use Rattle.answers.proofs.Signed.{fits-abs}
@@ -31,7 +31,7 @@ pub formed-there : (i : ℕ) (s : Sum) {ws₀ : List ℕ} {cs₀ : List ℤ} {ws
     → Forwards cs₀ (mostTerms * i) (coefficientsOf s) cs → length s ≡ k → length s ≤ mostTerms → FormedAt i (formed s) (formed k) ws₀ cs₀ ws cs
 unfolding formedInto
 formed-there i s words coefficients many few =
-    let as-many = length-map s (λ (t : Term). wordFor (t .pattern)) in
+    let as-many = length-map s (λ (t : Term). word (t .pattern)) in
     let as-many' = length-map s (λ (t : Term). t .coefficient) in
     record {
       in-part = rw (sym many, forwards.in-part i words (omega (arith, as-many)), forwards.in-part i coefficients (omega (arith, as-many'))) refl;
@@ -141,15 +141,15 @@ module _ {ws₀ : List ℕ} {cs₀ : List ℤ} {i a n b m : ℕ} {ws : List ℕ}
   fewer : {x' y' : ℕ} (w : Term) → Joining s t x' y' (l .done ++ (w ∷ [])) → k < mostTerms
   fewer w j = omega (arith, bounded j, length-append (l .done) (w ∷ []), l .many, sum-length s t, l .asked .few)
 
-  puts : {x' y' : ℕ} (w : Term) → Joining s t x' y' (l .done ++ (w ∷ [])) → {v : ℕ} {c : ℤ} → v ≡ wordFor (w .pattern) → c ≡ w .coefficient
+  puts : {x' y' : ℕ} (w : Term) → Joining s t x' y' (l .done ++ (w ∷ [])) → {v : ℕ} {c : ℤ} → v ≡ word (w .pattern) → c ≡ w .coefficient
       → Merging ws₀ cs₀ i a n b m (set ws (mostTerms * i + k) v) (set cs (mostTerms * i + k) c) x' y' (k + 1)
   puts w j {v} {c} word coefficient =
       let f = fewer w j in
-      let value : Term → ℕ = λ (u : Term). wordFor (u .pattern) in
+      let value : Term → ℕ = λ (u : Term). word (u .pattern) in
       let number : Term → ℤ = λ (u : Term). u .coefficient in
       built (l .asked) (l .done ++ (w ∷ [])) j
       (rw (map-append value (l .done) (w ∷ []))
-      (again (l .words) k (length-map (l .done) value ∙ l .many) (omega (arith, l .first-there .words, l .words .same)) (wordFor (w .pattern)) word))
+      (again (l .words) k (length-map (l .done) value ∙ l .many) (omega (arith, l .first-there .words, l .words .same)) (word (w .pattern)) word))
       (rw (map-append number (l .done) (w ∷ []))
       (again (l .coefficients) k (length-map (l .done) number ∙ l .many) (omega (arith, l .first-there .coefficients, l .coefficients .same)) (w .coefficient) coefficient))
       (length-append (l .done) (w ∷ []) ∙ ap (λ (z : ℕ). z + 1) (l .many))
@@ -184,7 +184,7 @@ module _ {ws₀ : List ℕ} {cs₀ : List ℤ} {i a n b m : ℕ} {ws : List ℕ}
       steps-first =
           let h = case-first .0 in
           puts (getD s x none) join-first
-          (first-word h ∙ word-is one place x h ∙ ap (λ (u : Term). wordFor (u .pattern)) (sym (term-is one place x h)))
+          (first-word h ∙ word-is one place x h ∙ ap (λ (u : Term). word (u .pattern)) (sym (term-is one place x h)))
           (ap (λ (u : Term). u .coefficient) (sym (first-term h)))
 
     module _ (e : nextStands x n y m p q ≡ Ordering·gt) where
@@ -203,7 +203,7 @@ module _ {ws₀ : List ℕ} {cs₀ : List ℤ} {i a n b m : ℕ} {ws : List ℕ}
       steps-second =
           let h = case-second .0 in
           puts (getD t y none) join-second
-          (second-word h ∙ word-is two place y h ∙ ap (λ (u : Term). wordFor (u .pattern)) (sym (term-is two place y h)))
+          (second-word h ∙ word-is two place y h ∙ ap (λ (u : Term). word (u .pattern)) (sym (term-is two place y h)))
           (ap (λ (u : Term). u .coefficient) (sym (second-term h)))
 
     module _ (e : nextStands x n y m p q ≡ Ordering·eq) where
@@ -254,7 +254,7 @@ module _ {ws₀ : List ℕ} {cs₀ : List ℤ} {i a n b m : ℕ} {ws : List ℕ}
         steps-both is =
             let h = case-both .0 .0 in
             puts _ join-both
-            (first-word h ∙ word-is one place x h ∙ ap (λ (u : Term). wordFor (u .pattern)) (sym (term-is one place x h)))
+            (first-word h ∙ word-is one place x h ∙ ap (λ (u : Term). word (u .pattern)) (sym (term-is one place x h)))
             (is ∙ sym sum-is)
 
   pub finally : n + m ≤ x + y → FormedAt i (formed (s ⊕ t)) (formed k) ws₀ cs₀ ws cs

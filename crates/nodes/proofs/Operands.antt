@@ -10,10 +10,8 @@ use lib.Seq.{length-take-le, getD-take, getD-drop}
 use Rattle.algebra.specs.Limits.{variables, mostTerms}
 use Rattle.algebra.specs.Pattern.{degree}
 use Rattle.algebra.specs.Sum.{term, inOrder, noZero, degreeOf, weight}
-use Rattle.algebra.specs.Word.{exponents, Valid}
-use Rattle.algebra.specs.Held.{wordFor}
+use Rattle.algebra.specs.Word.{word, exponents, Valid}
 use Rattle.algebra.proofs.Patterns.Word.{exponents-length}
-use Rattle.algebra.proofs.Sums.Held.{word-for}
 use Rattle.algebra.proofs.Sums.Ordered.{parts}
 use Rattle.sums.specs.Part.{part}
 use Rattle.sums.proofs.Holding.{terms-many, term-at, degree-at, size-at, each-valid}
@@ -64,8 +62,8 @@ module _ {i a n : ℕ} {ws : List ℕ} {cs : List ℤ} (o : Operand i a n ws cs)
     pub valid-at : Valid (getD ws (mostTerms * a + x) 0)
     valid-at = subst Valid word-at (each-valid (o .holds .held) x inside)
 
-    pub word-is : getD ws (mostTerms * a + x) 0 ≡ wordFor (exponents (getD ws (mostTerms * a + x) 0))
-    word-is = let w = getD ws (mostTerms * a + x) 0 in sym (word-for (exponents w) (exponents-length w) ∙ valid-at .is)
+    pub word-is : getD ws (mostTerms * a + x) 0 ≡ word (exponents (getD ws (mostTerms * a + x) 0))
+    word-is = let w = getD ws (mostTerms * a + x) 0 in sym (valid-at .is)
 
     pub light-at : natAbs (getD cs (mostTerms * a + x) (pos 0)) ≤ weight (sumIn a n ws cs)
     light-at = subst (λ (c : ℤ). natAbs c ≤ weight (sumIn a n ws cs)) coefficient-at (size-at (o .holds .held) x inside)

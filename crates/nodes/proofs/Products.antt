@@ -17,11 +17,11 @@ use Rattle.algebra.specs.Pattern.{times, degree}
 use Rattle.algebra.specs.Sum.{Term, term, Sum, isZero, noZero, degreeOf, weight}
 use Rattle.algebra.specs.Arithmetic.{timesTerm, row, _⊗_, productSpread}
 use Rattle.algebra.specs.Word.{word, exponents, Valid}
-use Rattle.algebra.specs.Held.{wordFor, wordsOf, coefficientsOf}
+use Rattle.algebra.specs.Held.{wordsOf, coefficientsOf}
 use Rattle.algebra.proofs.Numbers.Absolute.{abs-mul}
 use Rattle.algebra.proofs.Patterns.Laws.{times-length}
 use Rattle.algebra.proofs.Patterns.Word.{exponents-length}
-use Rattle.algebra.proofs.Sums.Held.{word-for, terms-long}
+use Rattle.algebra.proofs.Sums.Held.{terms-long}
 use Rattle.algebra.proofs.Sums.Ordered.{full-head}
 use Rattle.answers.proofs.Signed.{fits-abs}
 use Rattle.sums.specs.Formed.{Formed.formed}
@@ -165,15 +165,15 @@ module _ {ws₀ : List ℕ} {cs₀ : List ℤ} {i a b m w : ℕ} {c : ℤ} {ws :
     steps {v} {z} vs zs =
         let p = exponents (getD ws₀ (mostTerms * a) 0) in
         let q = exponents (getD ws₀ (mostTerms * b + k) 0) in
-        let value : Term → ℕ = λ (u : Term). wordFor (u .pattern) in
+        let value : Term → ℕ = λ (u : Term). word (u .pattern) in
         let number : Term → ℤ = λ (u : Term). u .coefficient in
         let next : Term = term (getD cs₀ (mostTerms * a) (pos 0) *ℤ getD cs₀ (mostTerms * b + k) (pos 0)) (times p q) in
         let long = times-length variables p q (exponents-length (getD ws₀ (mostTerms * a) 0)) (exponents-length (getD ws₀ (mostTerms * b + k) 0)) in
-        let v-is : v ≡ wordFor (times p q) = vs ∙ ap₂ (λ x y. word (times (exponents x) (exponents y))) (l .word-is) read-word ∙ sym (word-for (times p q) long) in
+        let v-is : v ≡ word (times p q) = vs ∙ ap₂ (λ x y. word (times (exponents x) (exponents y))) (l .word-is) read-word in
         let z-is : z ≡ next .coefficient = zs ∙ ap₂ _*ℤ_ (l .coefficient-is) read-coefficient in
         scaling (l .asked) (l .word-is) (l .coefficient-is)
         (rw (row-next (l .asked) k h, map-append value (take k r) (next ∷ []))
-        (again (l .words) k (length-map (take k r) value ∙ so-far) (omega (arith, l .second-there .words, l .words .same, l .few)) (wordFor (times p q)) v-is))
+        (again (l .words) k (length-map (take k r) value ∙ so-far) (omega (arith, l .second-there .words, l .words .same, l .few)) (word (times p q)) v-is))
         (rw (row-next (l .asked) k h, map-append number (take k r) (next ∷ []))
         (again (l .coefficients) k (length-map (take k r) number ∙ so-far) (omega (arith, l .second-there .coefficients, l .coefficients .same, l .few)) (next .coefficient) z-is))
         (omega arith)

@@ -1,5 +1,5 @@
 -- Three numbers are read as a node exactly when they are that node's numbers.
-use mathlib.Core.Path.{_≡_, refl, sym, _∙_, ap, ap₂, subst₂}
+use mathlib.Core.Path.{_≡_, refl, sym, _∙_, ap, ap₂, subst, subst₂}
 use mathlib.Core.Bool.{Bool, true, false, _&&_}
 use mathlib.Core.List.{List, [], _∷_}
 use Prim.Native.Nat.{ℕ, zero, suc, _<_}
@@ -13,9 +13,9 @@ use Rattle.algebra.specs.Sum.{isZero}
 use lib.Ieee.Fits.{and-i, and-l, and-r}
 use Rattle.answers.specs.Refusals.{NODE}
 use Rattle.answers.specs.Judge.{Judged, Judged.good, Judged.fails, holding}
-use Rattle.nodes.specs.Node.{Kind, Kind.integer, Kind.variable, Kind.sum, Kind.product, Kind.power, numbersOf, isNode, isIn, readKind, readNode}
+use Rattle.nodes.specs.Node.{Kind, Kind.integer, Kind.variable, Kind.sum, Kind.product, Kind.power, numbersOf, isNode, isIn, isKind, readNode}
 use Rattle.nodes.proofs.Formally.{two-children, base-child}
-use Rattle.nodes.proofs.Reading.{integer-read, variable-read, sum-read, product-read, power-read}
+use Rattle.nodes.proofs.Reading.{integer-read, variable-read, sum-read, product-read, power-read, large-kind, negative-kind}
 
 -- what is read from a list of three numbers
 abbrev pub readNumbers : ℕ → List ℤ → Judged Kind
@@ -126,20 +126,16 @@ module _ (i : ℕ) (first second : ℤ) where
         numbers-are = p .0;
       }
 
-  kind-read : (kind : ℕ) → Reads i (pos kind ∷ first ∷ second ∷ []) (readKind i kind first second)
-  unfolding readNode readKind
-  kind-read zero = tested i _ (isZero second) (integer first) integer-spelled refl
-  kind-read (suc zero) = tested i _ (isIn variables first && isZero second) (variable (natAbs first)) variable-spelled refl
-  kind-read (suc (suc zero)) = tested i _ (isIn i first && isIn i second) (sum (natAbs first) (natAbs second)) sum-spelled refl
-  kind-read (suc (suc (suc zero))) = tested i _ (isIn i first && isIn i second) (product (natAbs first) (natAbs second)) product-spelled refl
-  kind-read (suc (suc (suc (suc zero)))) =
-      tested i _ (isIn i first && isIn (suc largestDegree) second) (power (natAbs first) (natAbs second)) power-spelled refl
-  kind-read (suc (suc (suc (suc (suc kind))))) = refused i _ refl
-
   three-read : (kind : ℤ) → Reads i (kind ∷ first ∷ second ∷ []) (readNode i kind first second)
-  unfolding readNode
-  three-read (pos kind) = kind-read kind
-  three-read (negsuc kind) = refused i _ refl
+  unfolding readNode isKind
+  three-read (pos zero) = tested i _ (isZero second) (integer first) integer-spelled refl
+  three-read (pos (suc zero)) = tested i _ (isIn variables first && isZero second) (variable (natAbs first)) variable-spelled refl
+  three-read (pos (suc (suc zero))) = tested i _ (isIn i first && isIn i second) (sum (natAbs first) (natAbs second)) sum-spelled refl
+  three-read (pos (suc (suc (suc zero)))) = tested i _ (isIn i first && isIn i second) (product (natAbs first) (natAbs second)) product-spelled refl
+  three-read (pos (suc (suc (suc (suc zero))))) =
+      tested i _ (isIn i first && isIn (suc largestDegree) second) (power (natAbs first) (natAbs second)) power-spelled refl
+  three-read (pos (suc (suc (suc (suc (suc kind)))))) = subst (Reads i _) (large-kind i first second kind) (refused i _ (sym (large-kind i first second kind)))
+  three-read (negsuc kind) = subst (Reads i _) (negative-kind i first second kind) (refused i _ (sym (negative-kind i first second kind)))
 
 pub read-says : (i : ℕ) (numbers : List ℤ) → length numbers ≡ 3 → {r : Judged Kind} → readNumbers i numbers ≡ r → Reads i numbers r
 read-says i numbers h {r} e =

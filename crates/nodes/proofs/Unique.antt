@@ -8,12 +8,14 @@ use lib.ListN.{take, drop, take-append-drop}
 use lib.Seq.{drop-drop}
 use denote.Ref.{now}
 use Rattle.algebra.specs.Limits.{mostTerms}
-use Rattle.answers.proofs.Outcomes.{One, OneLent, same}
+use Rattle.answers.proofs.Outcomes.{same}
+use Rattle.answers.specs.Promised.{One, OneLent}
 use Rattle.algebra.specs.Sum.{Sum as AlgebraSum}
 use Rattle.sums.specs.Formed.{Formed}
 use Rattle.sums.proofs.Unique.{formed-one}
 use Rattle.answers.specs.Judge.{Judged, Judged.good, Judged.fails}
-use Rattle.nodes.specs.Node.{Kind, Kind.integer, Kind.variable, Kind.sum, Kind.product, Kind.power, kindOf, foundOf}
+use Rattle.nodes.specs.Node.{Kind, Kind.integer, Kind.variable, Kind.sum, Kind.product, Kind.power}
+use Rattle.nodes.specs.Inside.Code.{kindOf, foundOf}
 use Rattle.sums.specs.Part.{part}
 use Rattle.nodes.specs.Inside.Work.{FormedAt}
 use Rattle.nodes.specs.declared.Kind as code

@@ -19,7 +19,8 @@ use Rattle.answers.specs.Areas.{written}
 use Rattle.sums.specs.Asked.{Room}
 use Rattle.sums.specs.Formed.{Formed, Formed.formed, Formed.over, within, formedInto, sumOf, productOf, powerOf}
 use Rattle.nodes.specs.declared.Kind as code
-use Rattle.nodes.specs.Node.{Kind, Kind.integer, Kind.variable, Kind.sum, Kind.product, Kind.power, kindOf}
+use Rattle.nodes.specs.Node.{Kind, Kind.integer, Kind.variable, Kind.sum, Kind.product, Kind.power}
+use Rattle.nodes.specs.Inside.Code.{kindOf}
 use Rattle.nodes.specs.Formal.{formalDegree, formalWeight, nodeSpread, nodeSum}
 use Rattle.sums.proofs.Holding.{terms-many, holdable}
 use Rattle.sums.proofs.Fronts.{Placed, placed-written, placed-is}

@@ -1,8 +1,8 @@
 -- What a node is judged by: its formal degree, its formal weight and its spread, each from the children's; and its ordered sum.
 use mathlib.Core.List.{List, []}
-use Prim.Native.Nat.{ℕ, _+_, _*_, _^_, _≤_, _<_, max}
+use Prim.Native.Nat.{ℕ, _+_, _*_, _^_, max}
 use lib.IntN.{natAbs}
-use lib.ListN.{length, getD}
+use lib.ListN.{getD}
 use Rattle.algebra.specs.Limits.{variables}
 use Rattle.algebra.specs.Sum.{Sum}
 use Rattle.algebra.specs.Arithmetic as arithmetic
@@ -39,7 +39,3 @@ nodeSum ss (variable v) = arithmetic.variable variables v
 nodeSum ss (sum a b) = getD ss a [] ⊕ getD ss b []
 nodeSum ss (product a b) = getD ss a [] ⊗ getD ss b []
 nodeSum ss (power a e) = arithmetic.power variables (getD ss a []) e
-
--- what the code asks of the degrees and of the weights of the nodes before: each is at most a limit
-abbrev pub EachAtMost : ℕ → List ℕ → Type 0
-EachAtMost limit ns = (k : ℕ) → k < length ns → getD ns k 0 ≤ limit

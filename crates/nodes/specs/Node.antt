@@ -1,18 +1,14 @@
 -- A formula is a list of nodes, the last of which is the formula. A node is of one of five kinds, each with its own data; its children are earlier
 -- nodes, named by their index.
-use mathlib.Core.Bool.{Bool, true, false, _&&_}
+use mathlib.Core.Bool.{Bool, true, false, cond, _&&_}
 use mathlib.Core.List.{List, [], _∷_, _++_}
-use Prim.Native.Nat.{ℕ, zero, suc}
-use lib.Dec.{ltb, leb}
+use Prim.Native.Nat.{ℕ, suc}
+use lib.Dec.{eqb, ltb, leb}
 use lib.IntN.{ℤ, pos, negsuc, natAbs}
 use Rattle.algebra.specs.Limits.{variables, largestDegree}
 use Rattle.algebra.specs.Sum.{isZero}
 use Rattle.answers.specs.Refusals.{NODE}
 use Rattle.answers.specs.Judge.{Judged, Judged.good, Judged.fails, holding}
-use Rattle.nodes.specs.declared.Kind as declared
-use Rattle.nodes.specs.declared.Kind.the-variants as code
-use Rattle.nodes.specs.declared.Found as answer
-use Rattle.nodes.specs.declared.Found.the-variants.{Good, Fault}
 
 pub data Kind : Type 0 where
   integer : ℤ → Kind
@@ -21,14 +17,6 @@ pub data Kind : Type 0 where
   product : ℕ → ℕ → Kind
   -- the base, and the exponent
   power : ℕ → ℕ → Kind
-
--- each case of the code's enum
-abbrev pub kindOf : declared.Kind → Kind
-kindOf (code.Integer n) = integer n
-kindOf (code.Variable v) = variable v
-kindOf (code.Sum a b) = sum a b
-kindOf (code.Product a b) = product a b
-kindOf (code.Power a e) = power a e
 
 -- ---- The table: three numbers for each node, kind, first and second.
 
@@ -58,20 +46,17 @@ unfoldable pub isIn : ℕ → ℤ → Bool
 isIn limit (pos n) = ltb n limit
 isIn limit (negsuc n) = false
 
--- kinds 0, 1, 2, 3 and 4: a fixed 0 is 0, a variable one of a to h, a child an earlier node, an exponent 0 to 60. There is no other kind
-unfoldable pub readKind : ℕ → ℕ → ℤ → ℤ → Judged Kind
-readKind i zero first second = holding (isZero second) NODE i (good (integer first))
-readKind i (suc zero) first second = holding (isIn variables first && isZero second) NODE i (good (variable (natAbs first)))
-readKind i (suc (suc zero)) first second = holding (isIn i first && isIn i second) NODE i (good (sum (natAbs first) (natAbs second)))
-readKind i (suc (suc (suc zero))) first second = holding (isIn i first && isIn i second) NODE i (good (product (natAbs first) (natAbs second)))
-readKind i (suc (suc (suc (suc zero)))) first second = holding (isIn i first && isIn (suc largestDegree) second) NODE i (good (power (natAbs first) (natAbs second)))
-readKind i (suc (suc (suc (suc (suc kind))))) first second = fails NODE i
+-- the number is that of a kind
+unfoldable pub isKind : ℕ → ℤ → Bool
+isKind kind (pos n) = eqb n kind
+isKind kind (negsuc n) = false
 
+-- a fixed 0 is 0, a variable one of a to h, a child an earlier node, an exponent 0 to 60. There is no other kind
 unfoldable pub readNode : ℕ → ℤ → ℤ → ℤ → Judged Kind
-readNode i (pos kind) first second = readKind i kind first second
-readNode i (negsuc kind) first second = fails NODE i
-
--- each case of the code's answer, about node i
-abbrev pub foundOf : ℕ → answer.Found → Judged Kind
-foundOf i (Good k) = good (kindOf k)
-foundOf i Fault = fails NODE i
+readNode i kind first second =
+    cond (isKind 0 kind) (holding (isZero second) NODE i (good (integer first)))
+    (cond (isKind 1 kind) (holding (isIn variables first && isZero second) NODE i (good (variable (natAbs first))))
+    (cond (isKind 2 kind) (holding (isIn i first && isIn i second) NODE i (good (sum (natAbs first) (natAbs second))))
+    (cond (isKind 3 kind) (holding (isIn i first && isIn i second) NODE i (good (product (natAbs first) (natAbs second))))
+    (cond (isKind 4 kind) (holding (isIn i first && isIn (suc largestDegree) second) NODE i (good (power (natAbs first) (natAbs second))))
+    (fails NODE i)))))

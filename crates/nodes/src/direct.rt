@@ -11,7 +11,7 @@ ghost use lib.IntN.{pos};
 ghost use Rattle.algebra.specs.Limits.{largestDegree, mostTerms, largestWeight};
 ghost use Rattle.algebra.specs.Sum.{degreeOf, weight};
 ghost use Rattle.algebra.specs.Arithmetic.{_⊕_, sumSpread, _⊗_};
-ghost use Rattle.algebra.specs.Standing.{standing};
+ghost use Rattle.algebra.specs.Inside.Standing.{standing};
 ghost use Rattle.algebra.specs.Word.{exponents, Valid};
 ghost use Rattle.sums.specs.Formed.{Formed.formed};
 ghost use Rattle.nodes.specs.Inside.Work.{FormedAt};

@@ -6,9 +6,11 @@ ghost use lib.Dec.{T};
 ghost use lib.IntN.{pos};
 ghost use lib.ListN.{length};
 ghost use Rattle.algebra.specs.Limits.{largestDegree, largestWeight};
-ghost use Rattle.nodes.specs.Node.{isIn, isNode, kindOf, foundOf, readNode};
+ghost use Rattle.nodes.specs.Node.{isIn, isNode, readNode};
+ghost use Rattle.nodes.specs.Inside.Code.{kindOf, foundOf};
 ghost use Rattle.weights.specs.Capped.{capped};
-ghost use Rattle.nodes.specs.Formal.{formalDegree, formalWeight, EachAtMost};
+ghost use Rattle.nodes.specs.Formal.{formalDegree, formalWeight};
+ghost use Rattle.nodes.specs.Inside.Children.{EachAtMost};
 
 mod direct;
 pub mod work;

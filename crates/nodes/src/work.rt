@@ -10,7 +10,8 @@ ghost use lib.ListN.{length, getD, take};
 ghost use Rattle.algebra.specs.Limits.{mostTerms};
 ghost use Rattle.answers.specs.Areas.{written};
 ghost use Rattle.sums.specs.Formed.{formedOf};
-ghost use Rattle.nodes.specs.Node.{kindOf, Kind.sum, Kind.product, Kind.power};
+ghost use Rattle.nodes.specs.Node.{Kind.sum, Kind.product, Kind.power};
+ghost use Rattle.nodes.specs.Inside.Code.{kindOf};
 ghost use Rattle.sums.specs.Part.{part};
 ghost use Rattle.nodes.specs.Inside.Work.{sumsAt, nodeFormed, Ready, FormedAt};
 

@@ -8,8 +8,8 @@ use mathlib.Core.Logic.{inl, inr}
 use types.Run.{OneOf}
 use denote.Enum.Declared.{tagOf}
 use lib.Dec.{T}
-use Rattle.numbers.specs.Item.{Item, Item.got, Item.cut, Item.bad, andThen, provided, mapped, placeOf}
-use Rattle.numbers.specs.Read.{itemOf}
+use Rattle.numbers.specs.Item.{Item, Item.got, Item.cut, Item.bad, andThen, provided, mapped}
+use Rattle.numbers.specs.Inside.Read.{itemOf}
 use Rattle.numbers.specs.declared.Read.{Read}
 use Rattle.numbers.specs.declared.Read.the-variants.{Value, Cut, Bad}
 use Rattle.numbers.proofs.Read.{the-type}
@@ -98,6 +98,12 @@ pub carry : {A : Type 0} (P : A → ℕ → Type 0) {a b : A} {m n : ℕ} → go
 carry P {a} {b} {m} {n} e h = subst (λ (k : ℕ). P b k) (got-next e) (subst (λ x. P x m) (got-value e) h)
 
 -- ---- Places.
+
+-- the place that is answered: after what was read, or of the fault
+abbrev pub placeOf : {A : Type 0} → Item A → ℕ
+placeOf (got a next) = next
+placeOf (cut place) = place
+placeOf (bad place) = place
 
 pub place-then : {A B : Type 0} (most : ℕ) (r : Item A) (f : A → ℕ → Item B) → placeOf r ≤ most
     → ((a : A) (next : ℕ) → r ≡ got a next → placeOf (f a next) ≤ most) → placeOf (andThen r f) ≤ most

@@ -2,9 +2,10 @@
 use mathlib.Core.Path.{_≡_, refl, sym, ap, _∙_}
 use Prim.Native.Nat.{ℕ}
 use denote.Ref.{now}
-use Rattle.answers.proofs.Outcomes.{One, OneLent, same}
+use Rattle.answers.proofs.Outcomes.{same}
+use Rattle.answers.specs.Promised.{One, OneLent}
 use Rattle.numbers.specs.Item.{Item, Item.got, Item.cut, Item.bad}
-use Rattle.numbers.specs.Read.{itemOf}
+use Rattle.numbers.specs.Inside.Read.{itemOf}
 use Rattle.numbers.specs.declared.Read.{Read}
 use Rattle.numbers.specs.declared.Read.the-variants.{Value, Cut, Bad}
 use Rattle.numbers.proofs.read_number.Reads as read-number

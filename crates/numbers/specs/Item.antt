@@ -27,9 +27,3 @@ unfoldable pub mapped : {A B : Type 0} → (A → B) → Item A → Item B
 mapped f (got a next) = got (f a) next
 mapped f (cut place) = cut place
 mapped f (bad place) = bad place
-
--- the place that is answered: after what was read, or of the fault
-abbrev pub placeOf : {A : Type 0} → Item A → ℕ
-placeOf (got a next) = next
-placeOf (cut place) = place
-placeOf (bad place) = place

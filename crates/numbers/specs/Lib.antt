@@ -1,4 +1,4 @@
 pub mod Item
 pub mod Number
 pub mod Code
-pub mod Read
+pub mod Inside

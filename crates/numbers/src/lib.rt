@@ -7,7 +7,7 @@ ghost use lib.ListN.{length};
 ghost use lib.Seq.{sets};
 ghost use Rattle.numbers.specs.Number.{numberBytes, readNumber};
 ghost use Rattle.numbers.specs.Code.{code, decode};
-ghost use Rattle.numbers.specs.Read.{itemOf};
+ghost use Rattle.numbers.specs.Inside.Read.{itemOf};
 
 // What a reader of bytes answers. Those who read with it show a coefficient's code, a pattern's word or the number of a sum's terms.
 pub enum Read {

@@ -4,7 +4,8 @@ use mathlib.Core.List.{List, [], _∷_, _++_}
 use Prim.Native.Nat.{ℕ, _-_, _^_}
 use lib.IntN.{ℤ, pos, negsuc}
 use lib.ListN.{length, replicate}
-use Rattle.answers.proofs.Tables.{Each, _also_}
+use Rattle.answers.proofs.Tables.{_also_}
+use Rattle.answers.specs.Promised.{Each}
 use Rattle.algebra.specs.Limits.{variables}
 use Rattle.algebra.specs.Pattern.{degree, thenBy, byPowers, order}
 use Rattle.algebra.specs.Sum.{term, Sum, weight}

@@ -22,7 +22,7 @@ use Rattle.packed.specs.Packed.{exponentBytes, termBytes, bytesOfTerms}
 use Rattle.packed.specs.Inside.Arrays.{Copies}
 use Rattle.packed.proofs.Good.{AllValid, terms-good}
 use Rattle.packed.proofs.Sizes.{exponent-bytes-are}
-use Rattle.packed.proofs.Trip.{Stands, stands-none, stands-both, number-stands, terms-read}
+use Rattle.packed.proofs.Trip.{BytesAt, stands-none, stands-both, number-stands, terms-read}
 
 -- ---- Lists that get one more.
 
@@ -53,7 +53,7 @@ below-first (suc n) (x ∷ l) h = more (h 0) (below-first n l (λ i. h (suc i)))
 module _ (s : List ℕ) (byte : (i : ℕ) → getD s i 0 < 256) where
   -- eight bytes whose word is valid are an exponent each
   exponents-stand : (next w : ℕ) → next + variables ≤ length s → w ≡ word (take variables (drop next s)) → Valid w
-      → Stands s next (exponentBytes (exponents w)) (next + variables)
+      → BytesAt s next (exponentBytes (exponents w)) (next + variables)
   exponents-stand next w room is valid =
       let p = take variables (drop next s) in
       let long : length p ≡ variables = length-take-le variables (drop next s) (omega (arith, length-drop next s)) in
@@ -66,7 +66,7 @@ module _ (s : List ℕ) (byte : (i : ℕ) → getD s i 0 < 256) where
       }
 
   term-stands : (place c next w : ℕ) {z : ℤ} → readNumber s place ≡ got c next → next + variables ≤ length s → w ≡ word (take variables (drop next s)) → z ≡ decode c → Valid w
-      → Stands s place (termBytes (term z (exponents w))) (next + variables)
+      → BytesAt s place (termBytes (term z (exponents w))) (next + variables)
   unfolding termBytes
   term-stands place c next w {z} read room is value valid =
       let bytes : numberBytes (code z) ≡ numberBytes c = ap numberBytes (ap code value ∙ code-decode c) in
@@ -81,7 +81,7 @@ pub record Copying (s : List ℕ) (at count : ℕ) (words₀ : List ℕ) (coeffi
   pub coefficients-many : length cs ≡ k
   pub words-are : words ≡ written ws words₀
   pub coefficients-are : coefficients ≡ written cs coefficients₀
-  pub stands : AllValid ws → Stands s at (bytesOfTerms (terms ws cs)) place
+  pub stands : AllValid ws → BytesAt s at (bytesOfTerms (terms ws cs)) place
   pub inside : k ≤ count
   pub words-room : count ≤ length words₀
   pub coefficients-room : count ≤ length coefficients₀

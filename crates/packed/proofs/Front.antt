@@ -7,11 +7,10 @@ use lib.IntN.{ℤ, pos}
 use lib.ListN.{length, getD, take, drop}
 use lib.Seq.{drop-cons, getD-take, length-take-le}
 use Rattle.algebra.specs.Sum.{Term, term, Sum}
-use Rattle.algebra.specs.Word.{exponents, terms, Valid, EachValid}
+use Rattle.algebra.specs.Word.{word, exponents, terms, Valid, EachValid}
 use Rattle.algebra.proofs.Patterns.Held.{held-length, held-at, held-words, held-coefficients}
 use Rattle.algebra.proofs.Patterns.Word.{exponents-length}
-use Rattle.algebra.proofs.Sums.Held.{word-for}
-use Rattle.algebra.specs.Held.{wordFor, wordsOf, coefficientsOf, firstTerms}
+use Rattle.algebra.specs.Held.{wordsOf, coefficientsOf, firstTerms}
 
 -- the term at a place
 abbrev pub at-place : List ℕ → List ℤ → ℕ → Term
@@ -51,8 +50,8 @@ module _ (count : ℕ) (ws : List ℕ) (cs : List ℤ) (words : count ≤ length
   pub front-words : EachValid (take count ws) → wordsOf (firstTerms count ws cs) ≡ take count ws
   unfolding terms
   front-words valid =
-      held-words exponents wordFor (take count ws) (take count cs) alike
-      (λ i h. word-for (exponents (getD (take count ws) i 0)) (exponents-length (getD (take count ws) i 0)) ∙ valid i h .is)
+      held-words exponents word (take count ws) (take count cs) alike
+      (λ i h. valid i h .is)
 
   pub front-coefficients : coefficientsOf (firstTerms count ws cs) ≡ take count cs
   unfolding terms

@@ -130,6 +130,10 @@ each-valid [] valid i h = absurd (omega arith)
 each-valid (w ∷ ws) valid zero h = valid .0
 each-valid (w ∷ ws) valid (suc i) h = each-valid ws (valid .1) i (omega arith)
 
+pub valid-each : (ws : List ℕ) → EachValid ws → AllValid ws
+valid-each [] each = tt
+valid-each (w ∷ ws) each = (each 0 (omega arith), valid-each ws (λ k h. each (suc k) (omega (arith, h))))
+
 module _ (before : Sum) (w : ℕ) (c : ℤ) where
   pub fit-good : Valid w → Fit variables before (term c (exponents w)) → T (isGood before w c)
   unfolding isGood

@@ -10,10 +10,10 @@ use lib.ListN.{length, getD, take, length-map}
 use lib.Seq.{length-take-le}
 use Rattle.algebra.specs.Limits.{variables, largestDegree, mostTerms}
 use Rattle.algebra.specs.Sum.{Sum}
-use Rattle.algebra.specs.Word.{terms}
+use Rattle.algebra.specs.Word.{terms, EachValid}
 use lib.Ieee.Fits.{and-l, and-r}
 use Rattle.algebra.proofs.Patterns.Word.{word-valid}
-use Rattle.algebra.proofs.Sums.Held.{word-for, terms-again}
+use Rattle.algebra.proofs.Sums.Held.{terms-again}
 use Rattle.algebra.proofs.Sums.Every.{Every, Long, UpTo, degree-every}
 use Rattle.algebra.proofs.Sums.Ordered.{parts}
 use Rattle.answers.specs.Refusals.{SUM}
@@ -30,11 +30,12 @@ use Rattle.algebra.specs.Held.{wordsOf, coefficientsOf, firstTerms}
 use Rattle.packed.specs.Whole.{judged}
 use Rattle.packed.specs.Result.{heldInto}
 use Rattle.packed.specs.Unpack.{unpack}
-use Rattle.packed.proofs.Good.{AllValid, each-valid, accepted-good, good-terms}
+use Rattle.packed.specs.Promised.{Unpacks, PackFits, Packs}
+use Rattle.packed.proofs.Good.{AllValid, each-valid, valid-each, accepted-good, good-terms}
 use Rattle.packed.proofs.Trip.{whole-read, whole-written}
 use Rattle.packed.proofs.Front.{front-length, front-words, front-coefficients}
 use Rattle.packed.proofs.Unpacking.{has-room}
-use Rattle.packed.proofs.Packing.{Passed, all-good, accepted}
+use Rattle.packed.proofs.Packing.{all-good, accepted}
 
 -- where a test refuses, an operation that is done has passed it
 done-passed : {Areas : Type 0} {k : ℕ} {y : Areas} (b : Bool) (x : Outcome Areas) (r place : ℕ) (a : Areas) → check b r place a x ≡ outcome (done k) y → T b × (x ≡ outcome (done k) y)
@@ -47,17 +48,6 @@ pub unpack-accepts : (s : Sum) (ws : List ℕ) (cs : List ℤ) → Accepted vari
     → unpack (packed s) ws cs ≡ outcome (done (length s)) (written (wordsOf s) ws, written (coefficientsOf s) cs)
 unfolding heldInto
 unpack-accepts s ws cs a words-room coefficients-room = has-room (packed s) ws cs words-room coefficients-room ∙ rw (whole-read variables s a)
-
--- the bytes are those of a sum, and the two areas hold its terms
-pub record Unpacks (bytes ws : List ℕ) (cs : List ℤ) (count : ℕ) (ws' : List ℕ) (cs' : List ℤ) : Type 0 where
-  pub sum : Sum
-  pub accepted : Accepted variables sum
-  pub bytes-are : bytes ≡ packed sum
-  pub many : length sum ≡ count
-  pub words-are : ws' ≡ written (wordsOf sum) ws
-  pub coefficients-are : cs' ≡ written (coefficientsOf sum) cs
-  pub words-room : mostTerms ≤ length ws
-  pub coefficients-room : mostTerms ≤ length cs
 
 pub unpack-accepted : {bytes ws : List ℕ} {cs : List ℤ} {count : ℕ} {ws' : List ℕ} {cs' : List ℤ} → ((i : ℕ) → getD bytes i 0 < 256)
     → unpack bytes ws cs ≡ outcome (done count) (ws', cs') → Unpacks bytes ws cs count ws' cs'
@@ -92,26 +82,16 @@ unpack-accepted {bytes} {ws} {cs} {count} {ws'} {cs'} byte e =
 
 -- ---- `pack` is done exactly with the terms of an accepted sum.
 
-pub pack-accepts : (s : Sum) (count : ℕ) (ws : List ℕ) (cs : List ℤ) (area : List ℕ) → Accepted variables s → AllValid (take count ws) → firstTerms count ws cs ≡ s
+pub pack-accepts : (s : Sum) (count : ℕ) (ws : List ℕ) (cs : List ℤ) (area : List ℕ) → Accepted variables s → EachValid (take count ws) → firstTerms count ws cs ≡ s
     → count ≤ length ws → count ≤ length cs → mostBytes variables ≤ length area
     → pack count ws cs area ≡ outcome (done (length (packed s))) (written (packed s) area)
 pack-accepts s count ws cs area a valid held words coefficients room =
     let many : length s ≡ count = ap length (sym held) ∙ front-length count ws cs words coefficients in
     let long = length-take-le count ws words in
     let alike : length (take count ws) ≡ length (take count cs) = long ∙ sym (length-take-le count cs coefficients) in
-    let passed : Passed count ws cs area = record { room = room; few = omega (arith, many, a .few); words = words; coefficients = coefficients } in
-    let all-good' = good-terms [] (take count ws) (take count cs) valid alike (rw held (accepted-good variables s a)) ∙ long in
+    let passed : PackFits count ws cs area = record { room = room; few = omega (arith, many, a .few); words = words; coefficients = coefficients } in
+    let all-good' = good-terms [] (take count ws) (take count cs) (valid-each (take count ws) valid) alike (rw held (accepted-good variables s a)) ∙ long in
     sym (all-good passed all-good') ∙ rw held
-
--- the words are valid, the terms make a sum, and the area holds its bytes
-pub record Packs (count : ℕ) (ws : List ℕ) (cs : List ℤ) (area : List ℕ) (length-done : ℕ) (area' : List ℕ) : Type 0 where
-  pub valid : AllValid (take count ws)
-  pub accepted : Accepted variables (firstTerms count ws cs)
-  pub words : count ≤ length ws
-  pub coefficients : count ≤ length cs
-  pub room : mostBytes variables ≤ length area
-  pub many : length (packed (firstTerms count ws cs)) ≡ length-done
-  pub area-is : area' ≡ written (packed (firstTerms count ws cs)) area
 
 pub pack-accepted : {count : ℕ} {ws : List ℕ} {cs : List ℤ} {area : List ℕ} {length-done : ℕ} {area' : List ℕ}
     → pack count ws cs area ≡ outcome (done length-done) area' → Packs count ws cs area length-done area'
@@ -124,7 +104,7 @@ pack-accepted {count} {ws} {cs} {area} e =
     let good = done-passed (eqb (goodTerms [] (take count ws) (take count cs)) count) _ _ _ _ (shape .1) in
     let same = done-same (good .1) in
     let both = and-r (leb count mostTerms) (words-fit && coefficients-fit) (shape .0) in
-    let passed : Passed count ws cs area = record {
+    let passed : PackFits count ws cs area = record {
       room = leb→le (mostBytes variables) (length area) (room .0);
       few = leb→le count mostTerms (and-l (leb count mostTerms) (words-fit && coefficients-fit) (shape .0));
       words = leb→le count (length ws) (and-l words-fit coefficients-fit both);
@@ -132,11 +112,9 @@ pack-accepted {count} {ws} {cs} {area} e =
     } in
     let sum = accepted passed (eqb→eq (goodTerms [] (take count ws) (take count cs)) count (good .0)) in
     record {
-      valid = sum .0;
+      fits = passed;
+      valid = each-valid (take count ws) (sum .0);
       accepted = sum .1;
-      words = passed .words;
-      coefficients = passed .coefficients;
-      room = passed .room;
       many = same .0;
       area-is = sym (same .1);
     }
@@ -145,7 +123,7 @@ pack-accepted {count} {ws} {cs} {area} e =
 
 words-valid : (s : Sum) → Every (Long variables) s → Every (UpTo largestDegree) s → AllValid (wordsOf s)
 words-valid [] long low = tt
-words-valid (t ∷ s) long low = (rw (word-for (t .pattern) (long .0)) (word-valid (t .pattern) (long .0) (low .0)), words-valid s (long .1) (low .1))
+words-valid (t ∷ s) long low = (word-valid (t .pattern) (long .0) (low .0), words-valid s (long .1) (low .1))
 
 -- unpacking what was packed gives the terms again, in any areas with room
 pub pack-unpack : (count : ℕ) (ws : List ℕ) (cs : List ℤ) (area : List ℕ) (length-done : ℕ) (area' : List ℕ)
@@ -156,9 +134,10 @@ pack-unpack count ws cs area length-done area' e ws₀ cs₀ words-room coeffici
     let p = pack-accepted e in
     let s = firstTerms count ws cs in
     let bytes : take length-done area' ≡ packed s = written-front (packed s) area (p .area-is) (p .many) .0 in
-    let words = front-words count ws cs (p .words) (p .coefficients) (each-valid (take count ws) (p .valid)) in
-    let coefficients = front-coefficients count ws cs (p .words) (p .coefficients) in
-    rw bytes (rw (words, coefficients, front-length count ws cs (p .words) (p .coefficients)) at (unpack-accepts s ws₀ cs₀ (p .accepted) words-room coefficients-room))
+    let fits = p .fits in
+    let words = front-words count ws cs (fits .words) (fits .coefficients) (p .valid) in
+    let coefficients = front-coefficients count ws cs (fits .words) (fits .coefficients) in
+    rw bytes (rw (words, coefficients, front-length count ws cs (fits .words) (fits .coefficients)) at (unpack-accepts s ws₀ cs₀ (p .accepted) words-room coefficients-room))
 
 -- packing what was unpacked gives the bytes again, in any area with room
 pub unpack-pack : (bytes ws : List ℕ) (cs : List ℤ) (count : ℕ) (ws' : List ℕ) (cs' : List ℤ) → ((i : ℕ) → getD bytes i 0 < 256)
@@ -173,4 +152,4 @@ unpack-pack bytes ws cs count ws' cs' byte e area room =
     let long = parts variables s (u .accepted .isOrdered) .long in
     let low = degree-every largestDegree s (u .accepted .low) in
     let held = ap₂ terms (words .0) (coefficients .0) ∙ terms-again s long low in
-    rw (u .bytes-are) (pack-accepts s count ws' cs' area (u .accepted) (rw (words .0) (words-valid s long low)) held (words .1) (coefficients .1) room)
+    rw (u .bytes-are) (pack-accepts s count ws' cs' area (u .accepted) (rw (words .0) (each-valid (wordsOf s) (words-valid s long low))) held (words .1) (coefficients .1) room)

@@ -9,7 +9,8 @@ use lib.Dec.{eqb}
 use lib.ListN.{length}
 use borrow.Author.Tests.{ne-eqb}
 use Rattle.algebra.specs.Limits.{variables}
-use Rattle.algebra.specs.Pattern.{Pattern, emptyPattern, filled, order}
+use Rattle.algebra.specs.Pattern.{Pattern, emptyPattern, order}
+use Rattle.algebra.specs.Inside.Filled.{filled}
 use Rattle.algebra.specs.Sum.{Term, Sum, isBefore}
 use Rattle.algebra.specs.Word.{word, exponents, Valid}
 use Rattle.algebra.proofs.Patterns.Order.{order-filled}

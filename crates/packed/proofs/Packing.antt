@@ -17,6 +17,7 @@ use Rattle.packed.specs.Packed.{packed, mostBytes}
 use Rattle.algebra.specs.Accepted.{Accepted}
 use Rattle.packed.specs.Pack.{goodTerms, pack}
 use Rattle.algebra.specs.Held.{firstTerms}
+use Rattle.packed.specs.Promised.{PackFits}
 use Rattle.packed.proofs.Good.{AllValid, each-valid, good-accepted, good-most, terms-good}
 use Rattle.packed.proofs.Sizes.{packed-most}
 use Rattle.packed.proofs.Front.{front-length}
@@ -42,13 +43,7 @@ module _ (count : ℕ) (ws : List ℕ) (cs : List ℤ) (area : List ℕ) where
 
 -- ---- The tests are passed, and the terms are judged.
 
-pub record Passed (count : ℕ) (ws : List ℕ) (cs : List ℤ) (area : List ℕ) : Type 0 where
-  pub room : mostBytes variables ≤ length area
-  pub few : count ≤ mostTerms
-  pub words : count ≤ length ws
-  pub coefficients : count ≤ length cs
-
-module _ {count : ℕ} {ws : List ℕ} {cs : List ℤ} {area : List ℕ} (p : Passed count ws cs area) where
+module _ {count : ℕ} {ws : List ℕ} {cs : List ℤ} {area : List ℕ} (p : PackFits count ws cs area) where
   abbrev good : ℕ
   good = goodTerms [] (take count ws) (take count cs)
 

@@ -12,7 +12,8 @@ use lib.ListN.{length, getD}
 use Rattle.algebra.specs.Limits.{variables, largestDegree, mostTerms}
 use Rattle.algebra.specs.Sum.{term, Sum, weight}
 use Rattle.answers.proofs.Judging.{done-refused}
-use Rattle.numbers.specs.Item.{Item, Item.got, Item.cut, Item.bad, placeOf}
+use Rattle.numbers.specs.Item.{Item, Item.got, Item.cut, Item.bad}
+use Rattle.numbers.proofs.Items.{placeOf}
 use Rattle.numbers.specs.Number.{mostGroups, numberBytes, readNumber}
 use Rattle.numbers.specs.Code.{decode}
 use Rattle.numbers.proofs.Items.{place-then, place-mapped, place-provided, CutAt, cut-then, cut-mapped, cut-provided, cut-none}

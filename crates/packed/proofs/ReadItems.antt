@@ -10,7 +10,8 @@ use mir.Syntax.{w64}
 use mir.Val.{ofZ, toZ}
 use mir.ValLaws.{toZ-ofZ}
 use Rattle.algebra.specs.Limits.{variables, largestDegree, largestWeight}
-use Rattle.algebra.specs.Pattern.{Pattern, emptyPattern, filled, times, degree}
+use Rattle.algebra.specs.Pattern.{Pattern, emptyPattern, times, degree}
+use Rattle.algebra.specs.Inside.Filled.{filled}
 use Rattle.algebra.specs.Word.{word, exponents, Valid}
 use Rattle.algebra.proofs.Patterns.Laws.{filled-length, filled-degree, filled-next, alone-length, alone-degree, degree-append}
 use Rattle.algebra.proofs.Patterns.Word.{word-valid, exponents-word}
@@ -21,7 +22,7 @@ use Rattle.numbers.proofs.Items.{then-got, mapped-id, mapped-mapped, provided-y
 use Rattle.numbers.proofs.Codes.{code-decode, decode-fits}
 use Rattle.packed.specs.Judge.{weighs}
 use Rattle.packed.specs.ReadSum.{readCoefficient, readExponents}
-use Rattle.algebra.specs.Held.{wordFor}
+use Rattle.packed.specs.Inside.Arrays.{wordFor}
 use Rattle.algebra.proofs.Numbers.Absolute.{no-size, some-size}
 use Rattle.packed.proofs.Good.{weighs-some, weighs-light, weighs-is}
 

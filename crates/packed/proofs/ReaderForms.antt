@@ -27,7 +27,7 @@ use denote.Triple.Clauses.{Ended, Clauses, closing}
 use Rattle.algebra.specs.Limits.{variables}
 use Rattle.algebra.specs.Word.{word}
 use Rattle.numbers.specs.Number.{readNumber}
-use Rattle.numbers.specs.Read.{itemOf}
+use Rattle.numbers.specs.Inside.Read.{itemOf}
 use Rattle.numbers.proofs.Read as Read
 use Rattle.numbers.proofs.Read.Laws as Read-laws
 use Rattle.packed.proofs.reader.Reader as T

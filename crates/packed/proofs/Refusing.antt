@@ -20,21 +20,16 @@ use Rattle.packed.specs.Whole.{judged}
 use Rattle.packed.specs.Result.{heldInto}
 use Rattle.packed.specs.Unpack.{unpack}
 use Rattle.packed.specs.Pack.{isGood, goodTerms, pack}
-use Rattle.packed.proofs.Results.{AtFault, AtFault.is-cut, AtFault.is-bad, fault-judged}
+use Rattle.packed.specs.Promised.{AtFault, AtFault.is-cut, AtFault.is-bad, UnpackRefuses, UnpackRefuses.few-words, UnpackRefuses.few-coefficients, UnpackRefuses.at-sum, PackFits, FirstBad, FirstBad.here, FirstBad.later, PackRefuses}
+use Rattle.packed.proofs.Results.{fault-judged}
 use Rattle.packed.proofs.Unpacking as unpacking
 use Rattle.packed.proofs.Unpacking.{has-room}
 use Rattle.packed.proofs.Packing as packing
-use Rattle.packed.proofs.Packing.{Passed}
 
 -- ---- `unpack`.
 
 module _ (bytes ws : List ℕ) (cs : List ℤ) where
-  pub data UnpackRefuses : ℕ → ℕ → Type 0 where
-    few-words : length ws < mostTerms → UnpackRefuses ROOM 0
-    few-coefficients : mostTerms ≤ length ws → length cs < mostTerms → UnpackRefuses ROOM 0
-    at-sum : {p : ℕ} → mostTerms ≤ length ws → mostTerms ≤ length cs → AtFault (readWhole variables bytes) p → UnpackRefuses SUM p
-
-  pub refuses-unpack : {refusal p : ℕ} → UnpackRefuses refusal p → unpack bytes ws cs ≡ outcome (refused refusal p) (ws, cs)
+  pub refuses-unpack : {refusal p : ℕ} → UnpackRefuses bytes ws cs refusal p → unpack bytes ws cs ≡ outcome (refused refusal p) (ws, cs)
   unfolding heldInto
   refuses-unpack (few-words h) = sym (unpacking.few-words bytes ws cs h)
   refuses-unpack (few-coefficients h k) = sym (unpacking.few-coefficients bytes ws cs h k)
@@ -43,7 +38,7 @@ module _ (bytes ws : List ℕ) (cs : List ℤ) where
   -- what stands behind an answer
   abbrev UnpackBehind : Told → List ℕ × List ℤ → Type 0
   UnpackBehind (done n) areas = Unit {0}
-  UnpackBehind (refused refusal p) areas = UnpackRefuses refusal p × (areas ≡ (ws, cs))
+  UnpackBehind (refused refusal p) areas = UnpackRefuses bytes ws cs refusal p × (areas ≡ (ws, cs))
 
   abbrev UnpackExplains : Outcome (List ℕ × List ℤ) → Type 0
   UnpackExplains o = UnpackBehind (o .answer) (o .areas)
@@ -52,7 +47,7 @@ module _ (bytes ws : List ℕ) (cs : List ℤ) where
   unfolding heldInto
   unpack-explained = go (decLt (length ws) mostTerms) (decLt (length cs) mostTerms) (readWhole variables bytes) refl
     where
-      by : {refusal p : ℕ} → UnpackRefuses refusal p → UnpackExplains (unpack bytes ws cs)
+      by : {refusal p : ℕ} → UnpackRefuses bytes ws cs refusal p → UnpackExplains (unpack bytes ws cs)
       by d = subst UnpackExplains (sym (refuses-unpack d)) (d, refl)
 
       go : Dec (length ws < mostTerms) → Dec (length cs < mostTerms) → (item : Item Sum) → readWhole variables bytes ≡ item → UnpackExplains (unpack bytes ws cs)
@@ -63,15 +58,10 @@ module _ (bytes ws : List ℕ) (cs : List ℤ) where
       go (no long) (no also-long) (cut place) e = by (at-sum (omega (arith, long)) (omega (arith, also-long)) (is-cut e))
       go (no long) (no also-long) (bad place) e = by (at-sum (omega (arith, long)) (omega (arith, also-long)) (is-bad e))
 
-  pub unpack-refuses : {refusal p : ℕ} {areas : List ℕ × List ℤ} → unpack bytes ws cs ≡ outcome (refused refusal p) areas → UnpackRefuses refusal p × (areas ≡ (ws, cs))
+  pub unpack-refuses : {refusal p : ℕ} {areas : List ℕ × List ℤ} → unpack bytes ws cs ≡ outcome (refused refusal p) areas → UnpackRefuses bytes ws cs refusal p × (areas ≡ (ws, cs))
   unpack-refuses e = subst UnpackExplains e unpack-explained
 
 -- ---- `pack`.
-
--- the first bad term: those before it are good. `before` has the terms before, the last of them first
-pub data FirstBad : Sum → List ℕ → List ℤ → ℕ → Type 0 where
-  here : {before : Sum} {w : ℕ} {ws : List ℕ} {c : ℤ} {cs : List ℤ} → isGood before w c ≡ false → FirstBad before (w ∷ ws) (c ∷ cs) 0
-  later : {before : Sum} {w : ℕ} {ws : List ℕ} {c : ℤ} {cs : List ℤ} {p : ℕ} → isGood before w c ≡ true → FirstBad (term c (exponents w) ∷ before) ws cs p → FirstBad before (w ∷ ws) (c ∷ cs) (suc p)
 
 first-bad : (before : Sum) (ws : List ℕ) (cs : List ℤ) → length ws ≡ length cs → goodTerms before ws cs < length ws → FirstBad before ws cs (goodTerms before ws cs)
 unfolding goodTerms
@@ -90,25 +80,18 @@ bad-found (here e) = (rw e, omega arith)
 bad-found (later e b) = let found = bad-found b in (rw (e, found .0), omega (arith, found .1))
 
 module _ (count : ℕ) (ws : List ℕ) (cs : List ℤ) (area : List ℕ) where
-  pub data PackRefuses : ℕ → ℕ → Type 0 where
-    no-room : length area < mostBytes variables → PackRefuses ROOM 0
-    too-many : mostBytes variables ≤ length area → mostTerms < count → PackRefuses SHAPE 0
-    few-words : mostBytes variables ≤ length area → count ≤ mostTerms → length ws < count → PackRefuses SHAPE 0
-    few-coefficients : mostBytes variables ≤ length area → count ≤ mostTerms → count ≤ length ws → length cs < count → PackRefuses SHAPE 0
-    bad-term : {p : ℕ} → Passed count ws cs area → FirstBad [] (take count ws) (take count cs) p → PackRefuses SUM p
-
-  pub refuses-pack : {refusal p : ℕ} → PackRefuses refusal p → pack count ws cs area ≡ outcome (refused refusal p) area
-  refuses-pack (no-room h) = sym (packing.no-room count ws cs area h)
-  refuses-pack (too-many room h) = sym (packing.too-many count ws cs area room h)
-  refuses-pack (few-words room few h) = sym (packing.few-words count ws cs area room few h)
-  refuses-pack (few-coefficients room few words h) = sym (packing.few-coefficients count ws cs area room few words h)
-  refuses-pack (bad-term passed b) =
+  pub refuses-pack : {refusal p : ℕ} → PackRefuses count ws cs area refusal p → pack count ws cs area ≡ outcome (refused refusal p) area
+  refuses-pack (PackRefuses.no-room h) = sym (packing.no-room count ws cs area h)
+  refuses-pack (PackRefuses.too-many room h) = sym (packing.too-many count ws cs area room h)
+  refuses-pack (PackRefuses.few-words room few h) = sym (packing.few-words count ws cs area room few h)
+  refuses-pack (PackRefuses.few-coefficients room few words h) = sym (packing.few-coefficients count ws cs area room few words h)
+  refuses-pack (PackRefuses.bad-term passed b) =
       let found = bad-found b in
       sym (packing.bad-term passed (omega (arith, found .0, found .1, length-take-le count ws (passed .words)))) ∙ ap (λ (n : ℕ). outcome (refused SUM n) area) (found .0)
 
   abbrev PackBehind : Told → List ℕ → Type 0
   PackBehind (done n) area' = Unit {0}
-  PackBehind (refused refusal p) area' = PackRefuses refusal p × (area' ≡ area)
+  PackBehind (refused refusal p) area' = PackRefuses count ws cs area refusal p × (area' ≡ area)
 
   abbrev PackExplains : Outcome (List ℕ) → Type 0
   PackExplains o = PackBehind (o .answer) (o .areas)
@@ -116,23 +99,23 @@ module _ (count : ℕ) (ws : List ℕ) (cs : List ℤ) (area : List ℕ) where
   pack-explained : PackExplains (pack count ws cs area)
   pack-explained = go (decLt (length area) (mostBytes variables)) (decLt mostTerms count) (decLt (length ws) count) (decLt (length cs) count)
     where
-      by : {refusal p : ℕ} → PackRefuses refusal p → PackExplains (pack count ws cs area)
+      by : {refusal p : ℕ} → PackRefuses count ws cs area refusal p → PackExplains (pack count ws cs area)
       by d = subst PackExplains (sym (refuses-pack d)) (d, refl)
 
-      judged-terms : Passed count ws cs area → Dec (goodTerms [] (take count ws) (take count cs) < count) → PackExplains (pack count ws cs area)
+      judged-terms : PackFits count ws cs area → Dec (goodTerms [] (take count ws) (take count cs) < count) → PackExplains (pack count ws cs area)
       judged-terms passed (yes fewer) =
           let long = length-take-le count ws (passed .words) in
-          by (bad-term passed (first-bad [] (take count ws) (take count cs) (long ∙ sym (length-take-le count cs (passed .coefficients))) (omega (arith, fewer, long))))
+          by (PackRefuses.bad-term passed (first-bad [] (take count ws) (take count cs) (long ∙ sym (length-take-le count cs (passed .coefficients))) (omega (arith, fewer, long))))
       judged-terms passed (no all) = subst PackExplains (packing.all-good passed (packing.every-good passed (omega (arith, all)))) tt
 
       go : Dec (length area < mostBytes variables) → Dec (mostTerms < count) → Dec (length ws < count) → Dec (length cs < count) → PackExplains (pack count ws cs area)
-      go (yes short) many words coefficients = by (no-room short)
-      go (no long) (yes many) words coefficients = by (too-many (omega (arith, long)) many)
-      go (no long) (no few) (yes short) coefficients = by (few-words (omega (arith, long)) (omega (arith, few)) short)
-      go (no long) (no few) (no words) (yes short) = by (few-coefficients (omega (arith, long)) (omega (arith, few)) (omega (arith, words)) short)
+      go (yes short) many words coefficients = by (PackRefuses.no-room short)
+      go (no long) (yes many) words coefficients = by (PackRefuses.too-many (omega (arith, long)) many)
+      go (no long) (no few) (yes short) coefficients = by (PackRefuses.few-words (omega (arith, long)) (omega (arith, few)) short)
+      go (no long) (no few) (no words) (yes short) = by (PackRefuses.few-coefficients (omega (arith, long)) (omega (arith, few)) (omega (arith, words)) short)
       go (no long) (no few) (no words) (no coefficients) =
           judged-terms (record { room = omega (arith, long); few = omega (arith, few); words = omega (arith, words); coefficients = omega (arith, coefficients) })
           (decLt (goodTerms [] (take count ws) (take count cs)) count)
 
-  pub pack-refuses : {refusal p : ℕ} {area' : List ℕ} → pack count ws cs area ≡ outcome (refused refusal p) area' → PackRefuses refusal p × (area' ≡ area)
+  pub pack-refuses : {refusal p : ℕ} {area' : List ℕ} → pack count ws cs area ≡ outcome (refused refusal p) area' → PackRefuses count ws cs area refusal p × (area' ≡ area)
   pack-refuses e = subst PackExplains e pack-explained

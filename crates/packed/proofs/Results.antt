@@ -25,17 +25,19 @@ use Rattle.answers.specs.declared.Answer.{Answer}
 use Rattle.answers.proofs.Answer.{the-type}
 use Rattle.answers.proofs.Judging.{then-good, then-fails}
 use Rattle.answers.proofs.Writes.{written-front}
-use Rattle.numbers.specs.Item.{Item, Item.got, Item.cut, Item.bad, mapped, placeOf}
-use Rattle.numbers.specs.Read.{itemOf}
+use Rattle.numbers.specs.Item.{Item, Item.got, Item.cut, Item.bad, mapped}
+use Rattle.numbers.proofs.Items.{placeOf}
+use Rattle.numbers.specs.Inside.Read.{itemOf}
 use Rattle.numbers.specs.declared.Read.{Read}
 use Rattle.numbers.specs.declared.Read.the-variants.{Value}
 use Rattle.numbers.proofs.Read.{the-type as read-type}
 use Rattle.numbers.proofs.Items.{Alike, Alike.both-cut, Alike.both-bad, alike-then, stopped, answered, number-stopped}
 use Rattle.packed.specs.Packed.{packed, mostBytes}
 use Rattle.packed.specs.ReadSum.{readWhole}
-use Rattle.packed.specs.Inside.Held.{readInto, readCount, readRest}
-use Rattle.packed.specs.Whole.{judged, fault}
+use Rattle.packed.specs.Inside.Held.{readInto, readCount, readRest, fault}
+use Rattle.packed.specs.Whole.{judged}
 use Rattle.packed.specs.Result.{packedInto}
+use Rattle.packed.specs.Promised.{PackedSum, AtFault, AtFault.is-cut, AtFault.is-bad}
 use Rattle.packed.specs.Inside.Arrays.{wholeInto}
 use Rattle.packed.proofs.Sizes.{packed-most}
 use Rattle.packed.proofs.Trip.{whole-read, whole-written}
@@ -45,16 +47,6 @@ use Rattle.packed.proofs.Taking.{ReadAt}
 use Rattle.packed.proofs.Unpacking.{is-done, whole-refused, whole-done}
 
 -- ---- The bytes that are given.
-
--- they are those of an accepted sum
-pub record PackedSum (bytes : List ℕ) (s : Sum) : Type 0 where
-  pub accepted : Accepted variables s
-  pub bytes-are : bytes ≡ packed s
-
--- an item is cut or bad at a place
-pub data AtFault {A : Type 0} (item : Item A) (place : ℕ) : Type 0 where
-  is-cut : item ≡ cut place → AtFault item place
-  is-bad : item ≡ bad place → AtFault item place
 
 pub fault-judged : {A : Type 0} {item : Item A} {place : ℕ} (refusal : ℕ) → AtFault item place → judged refusal item ≡ fails refusal place
 fault-judged refusal (is-cut e) = ap (judged refusal) e

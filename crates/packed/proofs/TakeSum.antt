@@ -1,5 +1,5 @@
 -- A packed sum in two steps: its count, and then its terms.
-use mathlib.Core.Path.{_≡_, refl, sym, _∙_, ap}
+use mathlib.Core.Path.{_≡_, refl, sym, _∙_, ap, subst}
 use mathlib.Core.Bool.{Bool, true, false}
 use mathlib.Core.List.{List, [], _∷_}
 use Prim.Native.Nat.{ℕ, zero, suc, _≤_, _<_}
@@ -7,12 +7,14 @@ use native.Mathlib.Omega.{arith}
 use lib.Dec.{leb, leb→le, le→leb}
 use lib.ListN.{length}
 use Rattle.algebra.specs.Limits.{mostTerms}
-use Rattle.algebra.specs.Sum.{Sum}
+use Rattle.algebra.specs.Sum.{Term, Sum}
+use Rattle.algebra.proofs.Sums.Every.{Every, Long}
 use Rattle.numbers.specs.Item.{Item, Item.got, Item.cut, Item.bad, andThen, provided}
 use Rattle.numbers.specs.Number.{readNumber}
 use Rattle.numbers.proofs.Items.{then-got, then-then, provided-yes, provided-no, through, passed, came-from, got-value, carry, Alike, alike-then, alike-same}
-use Rattle.packed.specs.ReadSum.{readTerms, readSum, readWhole}
+use Rattle.packed.specs.ReadSum.{readTerm, readTerms, readSum, readWhole}
 use Rattle.packed.specs.Inside.Held.{readCount, readRest}
+use Rattle.packed.proofs.Trip.{exponents-fit}
 
 -- ---- The count.
 
@@ -75,6 +77,19 @@ terms-many n (suc left) before sum s at end e =
     let first = through _ _ _ _ e in
     let rest = came-from _ _ _ _ (first .second) in
     ap length (sym (rest .shown)) ∙ ap suc (terms-many n left (first .value ∷ before) (rest .value) s (first .next) end (rest .is))
+
+pub terms-all : (n left : ℕ) (before sum : Sum) (s : List ℕ) (at end : ℕ) → readTerms n left before s at ≡ got sum end → Every (Long n) sum
+unfolding readTerms readTerm
+terms-all n zero before sum s at end e = subst (Every (Long n)) (got-value e) tt
+terms-all n (suc left) before sum s at end e =
+    let first = through _ _ _ _ e in
+    let rest = came-from _ _ _ _ (first .second) in
+    let coefficient = through _ _ _ _ (first .first) in
+    let exponents = through _ _ _ _ (coefficient .second) in
+    let judged = passed _ _ _ _ _ (exponents .second) in
+    let long = exponents-fit s n 0 (exponents .value) (coefficient .next) (exponents .next) (omega arith) (exponents .first) .0 in
+    subst (Every (Long n)) (rest .shown)
+    (subst (λ (t : Term). length (t .pattern) ≡ n) (got-value (judged .1)) long, terms-all n left (first .value ∷ before) (rest .value) s (first .next) end (rest .is))
 
 pub rest-many : (n count : ℕ) (sum : Sum) (s : List ℕ) (at end : ℕ) → readRest n count s at ≡ got sum end → length sum ≡ count
 unfolding readRest

@@ -9,7 +9,8 @@ use lib.Dec.{eqb}
 use lib.IntN.{ℤ, natAbs}
 use lib.ListN.{length, take, set, length-set, length-map}
 use Rattle.algebra.specs.Limits.{variables, largestDegree, largestWeight}
-use Rattle.algebra.specs.Pattern.{emptyPattern, filled, degree, order}
+use Rattle.algebra.specs.Pattern.{emptyPattern, degree, order}
+use Rattle.algebra.specs.Inside.Filled.{filled}
 use Rattle.algebra.specs.Sum.{Term, term, Sum, isBefore, weight}
 use Rattle.algebra.specs.Word.{word, exponents, Valid}
 use Rattle.algebra.proofs.Patterns.Laws.{filled-length, filled-degree}
@@ -22,8 +23,8 @@ use Rattle.numbers.proofs.Items.{then-got, mapped-id, mapped-mapped, through, p
 use Rattle.numbers.proofs.Codes.{decode-code}
 use Rattle.packed.specs.Judge.{follows}
 use Rattle.packed.specs.ReadSum.{readCoefficient, readExponents, readTerm, readTerms}
-use Rattle.algebra.specs.Held.{wordFor, wordsOf, coefficientsOf}
-use Rattle.packed.specs.Inside.Arrays.{Holds}
+use Rattle.algebra.specs.Held.{coefficientsOf}
+use Rattle.packed.specs.Inside.Arrays.{wordFor, wordsFor, Holds}
 use Rattle.packed.proofs.Good.{weighs-light}
 use Rattle.packed.proofs.Trip.{exponents-fit}
 use Rattle.packed.proofs.Last.{Last, last-none, last-some}
@@ -69,7 +70,7 @@ pub record Takes (s : List ℕ) (at n count : ℕ) (words₀ : List ℕ) (coeffi
   pub weighed : total ≡ weight before
   pub light : total ≤ largestWeight
   pub last-is : Last n before k last
-  pub words-are : words ≡ written (wordsOf (onto before [])) words₀
+  pub words-are : words ≡ written (wordsFor (onto before [])) words₀
   pub coefficients-are : coefficients ≡ written (coefficientsOf (onto before [])) coefficients₀
   pub inside : k ≤ count
   pub most : n ≤ variables
@@ -106,7 +107,7 @@ module _ {s : List ℕ} {at n count : ℕ} {words₀ : List ℕ} {coefficients�
   words-kept : words ≡ written (take count words) words₀
   words-kept =
       let many = length-map (onto (t .before) []) (λ (u : Term). wordFor (u .pattern)) in
-      written-kept (wordsOf (onto (t .before) [])) words₀ count (t .words-are) (omega (arith, many, onto-length (t .before) [], t .many, t .inside)) (omega (arith, t .words-room, t .same-words))
+      written-kept (wordsFor (onto (t .before) [])) words₀ count (t .words-are) (omega (arith, many, onto-length (t .before) [], t .many, t .inside)) (omega (arith, t .words-room, t .same-words))
 
   coefficients-kept : coefficients ≡ written (take count coefficients) coefficients₀
   coefficients-kept =
@@ -217,7 +218,7 @@ module _ {s : List ℕ} {at n count : ℕ} {words₀ : List ℕ} {coefficients�
     record {
       words-kept = words-kept;
       coefficients-kept = coefficients-kept;
-      words-are = λ sum end e. t .words-are ∙ ap (λ l. written (wordsOf l) words₀) (got-value (sym (all-read h) ∙ e));
+      words-are = λ sum end e. t .words-are ∙ ap (λ l. written (wordsFor l) words₀) (got-value (sym (all-read h) ∙ e));
       coefficients-are = λ sum end e. t .coefficients-are ∙ ap (λ l. written (coefficientsOf l) coefficients₀) (got-value (sym (all-read h) ∙ e));
     },
   )

@@ -1,5 +1,5 @@
 -- What `take_each` and `take` leave in the caller's own arrays: the terms that were read, or zeros.
-use mathlib.Core.Path.{_≡_, refl, sym, _∙_, ap}
+use mathlib.Core.Path.{_≡_, refl, sym, _∙_, ap, ap₂}
 use mathlib.Core.List.{List, [], _∷_}
 use Prim.Native.Nat.{ℕ, _≤_}
 use native.Mathlib.Omega.{arith}
@@ -10,18 +10,21 @@ use lib.ListN.{length, take, length-take, length-map, replicate, length-replicat
 use lib.Seq.{length-take-le}
 use Rattle.algebra.specs.Limits.{variables}
 use Rattle.algebra.specs.Sum.{Sum}
+use Rattle.algebra.specs.Word.{word}
 use Rattle.algebra.specs.Held.{wordsOf, coefficientsOf, firstTerms}
+use Rattle.algebra.proofs.Patterns.Laws.{filled-all}
+use Rattle.algebra.proofs.Sums.Every.{Every, Long}
 use Rattle.answers.specs.Areas.{written, cleared}
 use Rattle.answers.proofs.Writes.{written-over}
 use Rattle.numbers.specs.Item.{Item, Item.got, Item.cut, Item.bad, mapped}
-use Rattle.numbers.specs.Read.{itemOf}
+use Rattle.numbers.specs.Inside.Read.{itemOf}
 use Rattle.numbers.specs.declared.Read.{Read}
 use Rattle.numbers.specs.declared.Read.the-variants.{Value}
 use Rattle.numbers.proofs.Read.{the-type}
 use Rattle.numbers.proofs.Items.{Alike, Alike.both-cut, Alike.both-bad, stopped, answered}
 use Rattle.packed.specs.ReadSum.{readTerms}
 use Rattle.packed.specs.Pack.{goodTerms}
-use Rattle.packed.specs.Inside.Arrays.{Holds, takenInto, Copies, Takes}
+use Rattle.packed.specs.Inside.Arrays.{wordsFor, Holds, takenInto, Copies, Takes}
 use Rattle.packed.proofs.Good.{each-valid, good-most, terms-good}
 use Rattle.packed.proofs.TakeSum.{terms-many}
 use Rattle.packed.proofs.Front.{front-length, front-words, front-coefficients}
@@ -37,6 +40,10 @@ module _ {A : Type 0} (count : ℕ) (area₀ : List A) {area : List A} (kept : a
 
 -- ---- `take_each`.
 
+words-for : (s : Sum) → Every (Long variables) s → wordsFor s ≡ wordsOf s
+words-for [] long = refl
+words-for (t ∷ s) long = ap₂ (λ (w : ℕ) (ws : List ℕ). w ∷ ws) (ap word (filled-all variables (t .pattern) (long .0))) (words-for s (long .1))
+
 module _ (count : ℕ) {ws₀ : List ℕ} {cs₀ : List ℤ} {ws : List ℕ} {cs : List ℤ} where
   pub each-stops : {x : Item ℕ} {all : Item Sum} {ws' : List ℕ} {cs' : List ℤ} → Alike x all → Holds count all ws₀ cs₀ ws cs → ws' ≡ cleared 0 count ws → cs' ≡ cleared (pos 0) count cs
       → (x, ws', cs') ≡ takenInto count all ws₀ cs₀
@@ -44,12 +51,14 @@ module _ (count : ℕ) {ws₀ : List ℕ} {cs₀ : List ℤ} {ws : List ℕ} {cs
   each-stops both-cut held words coefficients = rw (words ∙ cleared-kept count ws₀ (held .words-kept) 0, coefficients ∙ cleared-kept count cs₀ (held .coefficients-kept) (pos 0))
   each-stops both-bad held words coefficients = rw (words ∙ cleared-kept count ws₀ (held .words-kept) 0, coefficients ∙ cleared-kept count cs₀ (held .coefficients-kept) (pos 0))
 
-  pub each-taken : {r : Read} {n next : ℕ} {all : Item Sum} → r ≡ Value n next → itemOf r ≡ mapped length all → Holds count all ws₀ cs₀ ws cs → (itemOf r, ws, cs) ≡ takenInto count all ws₀ cs₀
+  -- every pattern that was read has all its exponents
+  pub each-taken : {r : Read} {n next : ℕ} {all : Item Sum} → r ≡ Value n next → itemOf r ≡ mapped length all → Holds count all ws₀ cs₀ ws cs
+      → ((s : Sum) (end : ℕ) → all ≡ got s end → Every (Long variables) s) → (itemOf r, ws, cs) ≡ takenInto count all ws₀ cs₀
   unfolding takenInto
-  each-taken {r} {n} {next} {all} is e held =
+  each-taken {r} {n} {next} {all} is e held long =
       let from = answered r is length all e in
       let first : itemOf r ≡ got (length (from .value)) next = ap itemOf is ∙ ap (λ (k : ℕ). got k next) (sym (from .shown)) in
-      let words = held .words-are (from .value) next (from .is) in
+      let words = held .words-are (from .value) next (from .is) ∙ ap (λ l. written l ws₀) (words-for (from .value) (long (from .value) next (from .is))) in
       let coefficients = held .coefficients-are (from .value) next (from .is) in
       (λ i. (first i, words i, coefficients i)) ∙ ap (λ item. takenInto count item ws₀ cs₀) (sym (from .is))
 

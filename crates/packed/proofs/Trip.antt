@@ -94,14 +94,14 @@ whole-read n sum a =
 -- ---- What is read was packed.
 
 -- from `at` up to `end` stand these bytes
-pub record Stands (s : List ℕ) (at : ℕ) (bytes : List ℕ) (end : ℕ) : Type 0 where
+pub record BytesAt (s : List ℕ) (at : ℕ) (bytes : List ℕ) (end : ℕ) : Type 0 where
   pub bytes-are : drop at s ≡ bytes ++ drop end s
   pub ends : end ≡ at + length bytes
 
-pub stands-none : (s : List ℕ) (at : ℕ) → Stands s at [] at
+pub stands-none : (s : List ℕ) (at : ℕ) → BytesAt s at [] at
 stands-none s at = record { bytes-are = refl; ends = omega arith }
 
-pub stands-both : {s : List ℕ} {at : ℕ} {a : List ℕ} {next : ℕ} {b : List ℕ} {end : ℕ} → Stands s at a next → Stands s next b end → Stands s at (a ++ b) end
+pub stands-both : {s : List ℕ} {at : ℕ} {a : List ℕ} {next : ℕ} {b : List ℕ} {end : ℕ} → BytesAt s at a next → BytesAt s next b end → BytesAt s at (a ++ b) end
 stands-both {s} {at} {a} {next} {b} {end} h k = record {
   bytes-are = h .bytes-are ∙ ap (λ l. a ++ l) (k .bytes-are) ∙ sym (append-assoc a b (drop end s));
   ends = omega (arith, h .ends, k .ends, length-append a b);
@@ -120,21 +120,21 @@ exponents-fit s (suc n) d p at end low e =
     subst (λ p. (length p ≡ suc n) × (d + degree p ≤ largestDegree)) (rest .shown) (ap suc (i .0), omega (arith, i .1))
 
 module _ (s : List ℕ) (byte : (i : ℕ) → getD s i 0 < 256) where
-  pub number-stands : {at v next : ℕ} → readNumber s at ≡ got v next → Stands s at (numberBytes v) next
+  pub number-stands : {at v next : ℕ} → readNumber s at ≡ got v next → BytesAt s at (numberBytes v) next
   number-stands {at} {v} {next} e = let w = number-written s at v next byte e in record { bytes-are = w .bytes; ends = w .ends }
 
-  exponents-written : (n d : ℕ) (p : Pattern) (at end : ℕ) → readExponents n d s at ≡ got p end → Stands s at (exponentBytes p) end
+  exponents-written : (n d : ℕ) (p : Pattern) (at end : ℕ) → readExponents n d s at ≡ got p end → BytesAt s at (exponentBytes p) end
   unfolding readExponents exponentBytes
-  exponents-written zero d p at end e = carry (λ p. Stands s at (exponentBytes p)) e (stands-none s at)
+  exponents-written zero d p at end e = carry (λ p. BytesAt s at (exponentBytes p)) e (stands-none s at)
   exponents-written (suc n) d p at end e =
       let first = through _ _ _ _ e in
       let rest = came-from _ _ _ _ (passed _ _ _ _ _ (first .second) .1) in
       let i = exponents-written n (d + first .value) (rest .value) (first .next) end (rest .is) in
-      subst (λ p. Stands s at (exponentBytes p) end) (rest .shown) (stands-both (number-stands (first .first)) i)
+      subst (λ p. BytesAt s at (exponentBytes p) end) (rest .shown) (stands-both (number-stands (first .first)) i)
 
   pub record OneTerm (n : ℕ) (before : Sum) (at : ℕ) (t : Term) (end : ℕ) : Type 0 where
     pub fit : Fit n before t
-    pub stands : Stands s at (termBytes t) end
+    pub stands : BytesAt s at (termBytes t) end
 
   pub term-written : (n : ℕ) (before : Sum) (t : Term) (at end : ℕ) → readTerm n before s at ≡ got t end → OneTerm n before at t end
   unfolding readTerm readCoefficient termBytes
@@ -157,7 +157,7 @@ module _ (s : List ℕ) (byte : (i : ℕ) → getD s i 0 < 256) where
   record Terms (n left : ℕ) (before : Sum) (at : ℕ) (sum : Sum) (end : ℕ) : Type 0 where
     good : Good n before sum
     many : length sum ≡ left
-    stands : Stands s at (bytesOfTerms sum) end
+    stands : BytesAt s at (bytesOfTerms sum) end
 
   terms-written : (n left : ℕ) (before sum : Sum) (at end : ℕ) → readTerms n left before s at ≡ got sum end → Terms n left before at sum end
   unfolding readTerms bytesOfTerms
@@ -173,7 +173,7 @@ module _ (s : List ℕ) (byte : (i : ℕ) → getD s i 0 < 256) where
 
   pub record Packed (n at : ℕ) (sum : Sum) (end : ℕ) : Type 0 where
     pub accepted : Accepted n sum
-    pub stands : Stands s at (packed sum) end
+    pub stands : BytesAt s at (packed sum) end
 
   pub sum-written : (n : ℕ) (sum : Sum) (at end : ℕ) → readSum n s at ≡ got sum end → Packed n at sum end
   unfolding readSum packed

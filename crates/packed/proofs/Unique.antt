@@ -4,7 +4,8 @@ use mathlib.Core.List.{List}
 use Prim.Native.Nat.{ℕ}
 use lib.IntN.{ℤ}
 use denote.Ref.{now}
-use Rattle.answers.proofs.Outcomes.{One, OneLent, same}
+use Rattle.answers.proofs.Outcomes.{same}
+use Rattle.answers.specs.Promised.{One, OneLent}
 use Rattle.answers.proofs.Unique.{told-one, outcome-one}
 use Rattle.numbers.proofs.Unique.{item-one}
 use Rattle.packed.proofs.read_count.Reads as read-count

@@ -11,7 +11,8 @@ use lib.IntN.{ℤ, pos}
 use lib.ListN.{length, take, length-map, length-replicate, replicate}
 use Rattle.algebra.specs.Limits.{variables, mostTerms}
 use Rattle.algebra.specs.Sum.{Term, Sum}
-use Rattle.algebra.specs.Held.{wordFor, wordsOf, coefficientsOf}
+use Rattle.algebra.specs.Held.{wordsOf, coefficientsOf}
+use Rattle.algebra.specs.Word.{word}
 use Rattle.answers.specs.Refusals.{ROOM, SUM, number}
 use Rattle.answers.specs.Answers.{Told, Told.done, Told.refused, told, outcome}
 use Rattle.answers.specs.Areas.{written, cleared}
@@ -21,14 +22,14 @@ use Rattle.answers.proofs.Answer.{the-type}
 use Rattle.answers.proofs.Judging.{refused-done, done-same}
 use Rattle.answers.proofs.Writes.{written-front, written-over}
 use Rattle.numbers.specs.Item.{Item, Item.got, Item.cut, Item.bad}
-use Rattle.numbers.specs.Read.{itemOf}
+use Rattle.numbers.specs.Inside.Read.{itemOf}
 use Rattle.numbers.specs.declared.Read.{Read}
 use Rattle.numbers.specs.declared.Read.the-variants.{Value}
 use Rattle.numbers.proofs.Items.{Alike, Alike.both-cut, Alike.both-bad, alike-then, then-got, provided-yes, provided-no}
 use Rattle.packed.specs.ReadSum.{readTerms, readSum, readWhole}
-use Rattle.packed.specs.Inside.Held.{readInto, readCount, readRest}
+use Rattle.packed.specs.Inside.Held.{readInto, readCount, readRest, fault}
 use Rattle.packed.specs.Inside.Arrays.{Takes}
-use Rattle.packed.specs.Whole.{judged, fault}
+use Rattle.packed.specs.Whole.{judged}
 use Rattle.packed.specs.Result.{heldInto}
 use Rattle.packed.specs.Inside.Arrays.{wholeInto}
 use Rattle.packed.specs.Unpack.{unpack}
@@ -100,7 +101,7 @@ module _ (count : ℕ) (s : List ℕ) (at : ℕ) {ws₀ : List ℕ} {cs₀ : Lis
   left-over {ws'} {cs'} h words coefficients =
       let over = provided-no end _ (leb (length s) end) (λ k. omega (arith, leb→le (length s) end k)) in
       let zeros : List ℕ = replicate count 0 in
-      let fewer-words : length (wordsOf (t .sum)) ≤ length zeros = omega (arith, length-map (t .sum) (λ (u : Term). wordFor (u .pattern)), all-many, length-replicate {A = ℕ} count 0) in
+      let fewer-words : length (wordsOf (t .sum)) ≤ length zeros = omega (arith, length-map (t .sum) (λ (u : Term). word (u .pattern)), all-many, length-replicate {A = ℕ} count 0) in
       let fewer-coefficients : length (coefficientsOf (t .sum)) ≤ length (replicate count (pos 0)) = omega (arith, length-map (t .sum) (λ (u : Term). u .coefficient), all-many, length-replicate count (pos 0)) in
       let ws-are : ws' ≡ cleared 0 count ws₀ = words ∙ ap (cleared 0 count) (t .words-are) ∙ written-over zeros (wordsOf (t .sum)) ws₀ fewer-words in
       let cs-are : cs' ≡ cleared (pos 0) count cs₀ = coefficients ∙ ap (cleared (pos 0) count) (t .coefficients-are) ∙ written-over (replicate count (pos 0)) (coefficientsOf (t .sum)) cs₀ fewer-coefficients in

@@ -13,11 +13,12 @@ use lib.Ieee.Fits.{and-l, and-r}
 use lib.Ieee.Bits.{is-true}
 use Rattle.algebra.proofs.Numbers.Test.{false-is}
 use Rattle.answers.specs.Refusals.{ROOM}
-use Rattle.answers.specs.Answers.{Told, Told.refused, outcome}
+use Rattle.answers.specs.Answers.{Told, Told.refused, Outcome, outcome, check}
 use Rattle.answers.specs.Areas.{cleared}
 use Rattle.answers.specs.Judge.{Judged}
 use Rattle.packed.specs.Packed.{mostBytes}
-use Rattle.packed.specs.Result.{Areas, packedInto, beside, worked}
+use Rattle.packed.specs.Result.{WorkAreas, packedInto, beside}
+use Rattle.packed.specs.Promised.{WorkRoom}
 
 -- three tests in a row
 pub each-holds : (a b c : Bool) → a && (b && c) ≡ true → T a × T b × T c
@@ -26,42 +27,36 @@ each-holds a b c e =
     let rest = and-r a (b && c) t in
     (and-l a (b && c) t, and-l b c rest, and-r b c rest)
 
--- the lent areas are long enough
-pub record Room (ws : List ℕ) (cs : List ℤ) (area : List ℕ) : Type 0 where
-  pub words : workPlaces ≤ length ws
-  pub coefficients : workPlaces ≤ length cs
-  pub result : mostBytes variables ≤ length area
-
--- the areas after any answer but ROOM: both work areas cleared, and the result area
-abbrev pub clearedWith : List ℕ → List ℤ → List ℕ → Areas
-clearedWith ws cs result = (cleared 0 workPlaces ws, cleared (pos 0) workPlaces cs, result)
-
 module _ (ws : List ℕ) (cs : List ℤ) (area : List ℕ) where
   abbrev pub hasRoom : Bool
   hasRoom = leb workPlaces (length ws) && (leb workPlaces (length cs) && leb (mostBytes variables) (length area))
 
-  room-tested : Room ws cs area → hasRoom ≡ true
-  room-tested r =
-      rw (le-leb workPlaces (length ws) (r .words), le-leb workPlaces (length cs) (r .coefficients), le-leb (mostBytes variables) (length area) (r .result))
+  -- what such an operation leaves, whatever it has judged; each writes this out in its own definition
+  unfoldable pub worked : Judged Sum → Outcome WorkAreas
+  worked judged = check hasRoom ROOM 0 (ws, cs, area) (beside (cleared 0 workPlaces ws) (cleared (pos 0) workPlaces cs) (packedInto judged area))
 
-  pub tested-room : hasRoom ≡ true → Room ws cs area
+  room-tested : WorkRoom ws cs area → hasRoom ≡ true
+  room-tested r =
+      rw (le-leb workPlaces (length ws) (r .patterns-room), le-leb workPlaces (length cs) (r .coefficients-room), le-leb (mostBytes variables) (length area) (r .result-room))
+
+  pub tested-room : hasRoom ≡ true → WorkRoom ws cs area
   tested-room e =
       let h = each-holds (leb workPlaces (length ws)) (leb workPlaces (length cs)) (leb (mostBytes variables) (length area)) e in
       record {
-        words = leb→le workPlaces (length ws) (h .0);
-        coefficients = leb→le workPlaces (length cs) (h .1);
-        result = leb→le (mostBytes variables) (length area) (h .2);
+        patterns-room = leb→le workPlaces (length ws) (h .0);
+        coefficients-room = leb→le workPlaces (length cs) (h .1);
+        result-room = leb→le (mostBytes variables) (length area) (h .2);
       }
 
-  pub tested-none : hasRoom ≡ false → Room ws cs area → ⊥
+  pub tested-none : hasRoom ≡ false → WorkRoom ws cs area → ⊥
   tested-none e r = true≢false (sym (room-tested r) ∙ e)
 
 module _ (judged : Judged Sum) (ws : List ℕ) (cs : List ℤ) (area : List ℕ) where
-  pub with-room : Room ws cs area → worked judged ws cs area ≡ beside (cleared 0 workPlaces ws) (cleared (pos 0) workPlaces cs) (packedInto judged area)
+  pub with-room : WorkRoom ws cs area → worked ws cs area judged ≡ beside (cleared 0 workPlaces ws) (cleared (pos 0) workPlaces cs) (packedInto judged area)
   unfolding worked
   with-room r = rw (room-tested ws cs area r)
 
-  pub without-room : (Room ws cs area → ⊥) → worked judged ws cs area ≡ outcome (refused ROOM 0) (ws, cs, area)
+  pub without-room : (WorkRoom ws cs area → ⊥) → worked ws cs area judged ≡ outcome (refused ROOM 0) (ws, cs, area)
   unfolding worked
   without-room f = rw (false-is (hasRoom ws cs area) (λ t. f (tested-room ws cs area (is-true (hasRoom ws cs area) t))))
 
@@ -70,12 +65,12 @@ cleared-same zero count xs ys h = ap (λ l. replicate count zero ++ l) (rw (leng
 
 -- the code clears both work areas after whatever was answered: ws' and cs' are what the work left there
 pub all-cleared : (judged : Judged Sum) (ws : List ℕ) (cs : List ℤ) (area : List ℕ) {t : Told} (ws' : List ℕ) (cs' : List ℤ) (area' : List ℕ) {ws'' : List ℕ} {cs'' : List ℤ}
-    → Room ws cs area → outcome t area' ≡ packedInto judged area
+    → WorkRoom ws cs area → outcome t area' ≡ packedInto judged area
     → drop workPlaces ws' ≡ drop workPlaces ws
     → drop workPlaces cs' ≡ drop workPlaces cs
     → ws'' ≡ cleared 0 workPlaces ws'
     → cs'' ≡ cleared (pos 0) workPlaces cs'
-    → outcome t (ws'', cs'', area') ≡ worked judged ws cs area
+    → outcome t (ws'', cs'', area') ≡ worked ws cs area judged
 all-cleared judged ws cs area ws' cs' area' {ws''} {cs''} room e words-stay coefficients-stay words coefficients =
     ap (beside ws'' cs'') e
     ∙ ap₂ (λ (l : List ℕ) (m : List ℤ). beside l m (packedInto judged area)) (words ∙ cleared-same 0 workPlaces ws' ws words-stay)

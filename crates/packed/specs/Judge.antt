@@ -8,9 +8,9 @@ use Rattle.algebra.specs.Limits.{largestWeight}
 use Rattle.algebra.specs.Pattern.{Pattern, order}
 use Rattle.algebra.specs.Sum.{Sum, isZero, isBefore}
 
--- the coefficient is not 0, and the absolute coefficients so far, `total` before it, are not above 2^62
+-- the coefficient is not 0, and the absolute coefficients, `soFar` before it, are not above 2^62 with it
 unfoldable pub weighs : ℕ → ℤ → Bool
-weighs total c = not (isZero c) && leb (total + natAbs c) largestWeight
+weighs soFar c = not (isZero c) && leb (soFar + natAbs c) largestWeight
 
 -- the pattern stands strictly after the one before; `before` has the terms before it, the last of them first
 unfoldable pub follows : Sum → Pattern → Bool

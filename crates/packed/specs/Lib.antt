@@ -5,4 +5,5 @@ pub mod Whole
 pub mod Result
 pub mod Unpack
 pub mod Pack
+pub mod Promised
 pub mod Inside

@@ -27,10 +27,10 @@ goodTerms before (w ∷ ws) (c ∷ cs) = cond (isGood before w c) (suc (goodTerm
 
 -- `count` terms from the front of the two areas
 unfoldable pub pack : ℕ → List ℕ → List ℤ → List ℕ → Outcome (List ℕ)
-pack count ws cs area =
-    let good = goodTerms [] (take count ws) (take count cs) in
-    let bytes = packed (firstTerms count ws cs) in
-    check (leb (mostBytes variables) (length area)) ROOM 0 area
-    (check (leb count mostTerms && (leb count (length ws) && leb count (length cs))) SHAPE 0 area
-    (check (eqb good count) SUM good area
-    (outcome (done (length bytes)) (written bytes area))))
+pack count patterns coefficients result =
+    let good = goodTerms [] (take count patterns) (take count coefficients) in
+    let bytes = packed (firstTerms count patterns coefficients) in
+    check (leb (mostBytes variables) (length result)) ROOM 0 result
+    (check (leb count mostTerms && (leb count (length patterns) && leb count (length coefficients))) SHAPE 0 result
+    (check (eqb good count) SUM good result
+    (outcome (done (length bytes)) (written bytes result))))

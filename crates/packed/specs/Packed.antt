@@ -24,8 +24,10 @@ packed s = numberBytes (length s) ++ bytesOfTerms s
 
 -- ---- The most bytes, in n variables: ten for a coefficient, one for an exponent, two for a count.
 
+-- in eight variables 18
 abbrev pub mostTermBytes : ℕ → ℕ
 mostTermBytes n = mostGroups + n
 
+-- in eight variables 2,306
 abbrev pub mostBytes : ℕ → ℕ
 mostBytes n = mostTermBytes n * mostTerms + 2

@@ -13,12 +13,12 @@ use Rattle.numbers.specs.Number.{readNumber}
 use Rattle.numbers.specs.Code.{decode}
 use Rattle.packed.specs.Judge.{weighs, follows}
 
--- `total` is what the absolute coefficients before it add up to. At fault, at its first byte: a coefficient 0, or absolute coefficients so
+-- `soFar` is what the absolute coefficients before it add up to. At fault, at its first byte: a coefficient 0, or absolute coefficients so
 -- far above 2^62
 unfoldable pub readCoefficient : ℕ → List ℕ → ℕ → Item ℤ
-readCoefficient total s at =
+readCoefficient soFar s at =
     andThen (readNumber s at) (λ c next.
-    provided (weighs total (decode c)) at (got (decode c) next))
+    provided (weighs soFar (decode c)) at (got (decode c) next))
 
 -- n exponents; `degree` is what the term's exponents so far add up to. At fault, at the exponent's first byte: above 60 together
 unfoldable pub readExponents : ℕ → ℕ → List ℕ → ℕ → Item Pattern

@@ -13,6 +13,6 @@ use Rattle.packed.specs.Whole.{judged}
 use Rattle.packed.specs.Result.{heldInto}
 
 unfoldable pub unpack : List ℕ → List ℕ → List ℤ → Outcome (List ℕ × List ℤ)
-unpack bytes ws cs =
-    check (leb mostTerms (length ws) && leb mostTerms (length cs)) ROOM 0 (ws, cs)
-    (heldInto (judged SUM (readWhole variables bytes)) ws cs)
+unpack bytes patterns coefficients =
+    check (leb mostTerms (length patterns) && leb mostTerms (length coefficients)) ROOM 0 (patterns, coefficients)
+    (heldInto (judged SUM (readWhole variables bytes)) patterns coefficients)

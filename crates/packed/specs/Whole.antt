@@ -1,6 +1,5 @@
 -- What an operation makes of the packed sum that it is given: a cut record and a damaged one are refused alike, at their place.
 use Prim.Native.Nat.{ℕ}
-use Rattle.answers.specs.Answers.{Told, Told.refused}
 use Rattle.answers.specs.Judge.{Judged, Judged.good, Judged.fails}
 use Rattle.numbers.specs.Item.{Item, Item.got, Item.cut, Item.bad}
 
@@ -9,9 +8,3 @@ abbrev pub judged : {A : Type 0} → ℕ → Item A → Judged A
 judged refusal (got a next) = good a
 judged refusal (cut place) = fails refusal place
 judged refusal (bad place) = fails refusal place
-
--- the refusal of one that is at fault (a value is no fault: nothing asks for its case)
-abbrev pub fault : {A : Type 0} → ℕ → Item A → Told
-fault refusal (got a next) = refused refusal next
-fault refusal (cut place) = refused refusal place
-fault refusal (bad place) = refused refusal place

@@ -9,7 +9,7 @@ ghost use mathlib.Core.List.{[]};
 ghost use Prim.Native.Nat.{_≤_};
 ghost use lib.ListN.{length, take};
 ghost use Rattle.algebra.specs.Limits.{variables};
-ghost use Rattle.numbers.specs.Read.{itemOf};
+ghost use Rattle.numbers.specs.Inside.Read.{itemOf};
 ghost use Rattle.packed.specs.ReadSum.{readTerms};
 ghost use Rattle.packed.specs.Inside.Arrays.{takenInto, Copies, Takes};
 ghost use Rattle.packed.specs.Pack.{goodTerms};

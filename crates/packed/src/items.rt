@@ -15,12 +15,11 @@ ghost use Rattle.algebra.specs.Limits.{variables, largestWeight};
 ghost use Rattle.algebra.specs.Pattern.{order};
 ghost use Rattle.algebra.specs.Sum.{isBefore};
 ghost use Rattle.algebra.specs.Word.{exponents, Valid};
-ghost use Rattle.algebra.specs.Held.{wordFor};
 ghost use Rattle.numbers.specs.Item.{mapped};
 ghost use Rattle.numbers.specs.Code.{code};
-ghost use Rattle.numbers.specs.Read.{itemOf};
+ghost use Rattle.numbers.specs.Inside.Read.{itemOf};
 ghost use Rattle.packed.specs.ReadSum.{readCoefficient, readExponents, readTerms};
-ghost use Rattle.packed.specs.Inside.Arrays.{Holds, takenInto};
+ghost use Rattle.packed.specs.Inside.Arrays.{wordFor, Holds, takenInto};
 
 // A coefficient, judged at once: `weight` is that of the terms before. The value is its code.
 fn read_coefficient(bytes: &[u8], at: usize, weight: u64) -> Read

@@ -9,7 +9,7 @@ ghost use lib.ListN.{length, take, drop};
 ghost use Rattle.algebra.specs.Limits.{variables};
 ghost use Rattle.algebra.specs.Word.{word};
 ghost use Rattle.numbers.specs.Number.{readNumber};
-ghost use Rattle.numbers.specs.Read.{itemOf};
+ghost use Rattle.numbers.specs.Inside.Read.{itemOf};
 
 pub(crate) struct Reader<'a> {
     bytes: &'a [u8],

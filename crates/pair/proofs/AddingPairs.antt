@@ -15,9 +15,9 @@ use Rattle.algebra.specs.Sum.{Term, Sum, weight}
 use Rattle.algebra.specs.Collect.{gather, spread}
 use Rattle.algebra.specs.Arithmetic.{pairs}
 use Rattle.algebra.specs.Value.{coefficientIn, coefficient}
-use Rattle.algebra.specs.Word.{terms, termsBy}
+use Rattle.algebra.specs.Word.{word, terms, termsBy}
 use Rattle.algebra.specs.Inside.Rank.{wordAt, wordsAt}
-use Rattle.algebra.specs.Held.{wordFor, firstTerms}
+use Rattle.algebra.specs.Held.{firstTerms}
 use Rattle.algebra.proofs.Sums.Equal.{coefficient-additive, gather-equal}
 use Rattle.algebra.proofs.Sums.Occurs.{spread-gather}
 use Rattle.algebra.proofs.Sums.Ring.{comm-total}
@@ -75,7 +75,7 @@ lent-added ks {cs} a rest more = record {
   number-is = a .number-is;
   words-are = λ s e.
       ap (take (length s)) (map-append wordAt ks rest)
-      ∙ take-append-le (length s) (wordsAt ks) (wordsAt rest) (omega (arith, length-take (length s) (wordsAt ks), ap length (a .words-are s e), length-map s (λ (t : Term). wordFor (t .pattern))))
+      ∙ take-append-le (length s) (wordsAt ks) (wordsAt rest) (omega (arith, length-take (length s) (wordsAt ks), ap length (a .words-are s e), length-map s (λ (t : Term). word (t .pattern))))
       ∙ a .words-are s e;
   coefficients-are = λ s e.
       take-append-le (length s) cs more (omega (arith, length-take (length s) cs, ap length (a .coefficients-are s e), length-map s (λ (t : Term). t .coefficient)))

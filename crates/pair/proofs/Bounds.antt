@@ -11,7 +11,7 @@ use lib.IntN.{ℤ, pos, negsuc, natAbs}
 use lib.ListN.{length}
 use Rattle.algebra.specs.Pattern.{Pattern, emptyPattern, degree, exponent, without}
 use Rattle.algebra.specs.Sum.{term, Sum, isZero, noZero, degreeOf, weight}
-use Rattle.algebra.specs.Arithmetic.{unit, row, pairs, productSpread, power, powerSpread}
+use Rattle.algebra.specs.Arithmetic.{oneSum, row, pairs, productSpread, power, powerSpread}
 use Rattle.algebra.specs.Substitute.{pairDegree, pairWeight, largestPower}
 use Rattle.algebra.proofs.Patterns.Laws.{degree-times}
 use Rattle.algebra.proofs.Sums.Every.{Every, pairs-every, UpTo, degree-every}
@@ -90,7 +90,7 @@ module _ (v : ℕ) (S : Sum) where
 -- ---- One step of the powers. Its spread is judged, but for that of the first power: this is the sum itself, and has no more patterns than terms.
 
 module _ (n : ℕ) (S : Sum) where
-  unit-spread : productSpread (unit n) S ≤ length S
+  unit-spread : productSpread (oneSum n) S ≤ length S
   unfolding productSpread pairs
   unit-spread =
       let u = term (pos 1) (emptyPattern n) in

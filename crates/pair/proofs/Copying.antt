@@ -17,7 +17,7 @@ use Rattle.sums.specs.declared.Formed as declared
 use Rattle.sums.specs.declared.Formed.the-variants.{Terms}
 use Rattle.sums.proofs.Formed.{the-type}
 use Rattle.sums.proofs.Forming.{within-yes}
-use Rattle.sums.proofs.Answering.{Given, given, refused, over-into}
+use Rattle.sums.proofs.Answering.{Known, given, refused, over-into}
 
 module _ (spread : ℕ) (s : Sum) (ws₀ : List ℕ) (cs₀ : List ℤ) {ws : List ℕ} {cs : List ℤ} (a : declared.Formed)
     (told : (formedOf a, ws, cs) ≡ formedInto (within spread s) ws₀ cs₀) where
@@ -28,7 +28,7 @@ module _ (spread : ℕ) (s : Sum) (ws₀ : List ℕ) (cs₀ : List ℤ) {ws : Li
       over-into spread s ps ds a (no .0) (no .1)
 
   module _ {n : ℕ} (is : a ≡ Terms n) where
-    have : Given spread s ws₀ cs₀ ws cs n
+    have : Known spread s ws₀ cs₀ ws cs n
     have = given spread s ws₀ cs₀ ws cs a is told
 
     pub copy-few : length s ≤ spread → n ≤ mostTerms

@@ -13,7 +13,7 @@ use denote.Enum.Declared.{tagOf}
 use Rattle.algebra.specs.Limits.{variables, largestDegree, mostTerms, largestWeight}
 use Rattle.algebra.specs.Sum.{Term, Sum, degreeOf, weight}
 use Rattle.algebra.specs.Collect.{gather, dropZeros, collect, spread}
-use Rattle.algebra.specs.Arithmetic.{integer, unit, pairs, _⊗_, productSpread, power, powerSpread}
+use Rattle.algebra.specs.Arithmetic.{integer, oneSum, pairs, _⊗_, productSpread, power, powerSpread}
 use Rattle.algebra.specs.Substitute.{pairRows, substitute, largestPower, pairSpread}
 use Rattle.algebra.specs.Word.{terms}
 use Rattle.algebra.specs.Held.{wordsOf, coefficientsOf, firstTerms}
@@ -37,7 +37,7 @@ use Rattle.sums.proofs.Fronts.{Placed, placed-few, placed-is, placed-held, Fron
 use Rattle.sums.proofs.Gathering.{gathered, placed-finished}
 use Rattle.sums.proofs.Multiplying.{Factors, product-holdable, gather-rest, spread-rest}
 use Rattle.sums.proofs.Raising.{heavier, spread-rises}
-use Rattle.pair.specs.Asked.{Given, Allowed}
+use Rattle.pair.specs.Asked.{CanPut, Allowed}
 use Rattle.pair.specs.Formed.{pairOf}
 use Rattle.pair.specs.Rows.{partAt, rowsAt, CanAddRows}
 use Rattle.pair.proofs.Bounds.{power-low, power-light, rows-within, step-judged, step-narrow}
@@ -55,7 +55,7 @@ Tells v S s r ps ds = (formedOf r, ps, ds) ≡ formedInto (pairOf v S s) ps ds
 abbrev Stops : ℕ → Sum → Sum → declared.Formed → Type 0
 Stops v S s r = OneOf (1 ∷ []) (tagOf the-type r) → (ps : List ℕ) (ds : List ℤ) → Tells v S s r ps ds
 
-module _ {v : ℕ} {sp : List ℕ} {sc : List ℤ} {fp : List ℕ} {fc : List ℤ} (g : Given v sp sc fp fc) (a : Allowed v sp sc fp fc) where
+module _ {v : ℕ} {sp : List ℕ} {sc : List ℤ} {fp : List ℕ} {fc : List ℤ} (g : CanPut v sp sc fp fc) (a : Allowed v sp sc fp fc) where
   abbrev S : Sum
   S = terms sp sc
 
@@ -116,7 +116,7 @@ module _ {v : ℕ} {sp : List ℕ} {sc : List ℤ} {fp : List ℕ} {fc : List �
 
 pub record Putting (v largest : ℕ) (sp : List ℕ) (sc : List ℤ) (fp : List ℕ) (fc : List ℤ) (gp : List ℕ) (gc : List ℤ) (wp : List ℕ) (wc : List ℤ)
     (n all k : ℕ) : Type 0 where
-  pub given-pair : Given v sp sc fp fc
+  pub given-pair : CanPut v sp sc fp fc
   pub allowed : Allowed v sp sc fp fc
   pub largest-is : largest ≡ largestPower v (terms fp fc)
   pub inside : k ≤ largest
@@ -136,7 +136,7 @@ pub record Lent (gr pr : List ℕ) (pc : List ℤ) (wr : List ℕ) : Type 0 wher
 -- And where the power k stands, and its rows are to be added to those before.
 pub record Joining (v largest : ℕ) (sp : List ℕ) (sc : List ℤ) (fp : List ℕ) (fc : List ℤ) (gp : List ℕ) (gc : List ℤ) (wp : List ℕ) (wc : List ℤ)
     (n all k : ℕ) : Type 0 where
-  pub given-pair : Given v sp sc fp fc
+  pub given-pair : CanPut v sp sc fp fc
   pub allowed : Allowed v sp sc fp fc
   pub largest-is : largest ≡ largestPower v (terms fp fc)
   pub inside : k ≤ largest
@@ -159,14 +159,14 @@ first-power S ws₀ cs₀ told words-room coefficients-room =
     unit-holdable words-room coefficients-room
 
 pub start : {v largest : ℕ} {sp : List ℕ} {sc : List ℤ} {fp : List ℕ} {fc : List ℤ} {gp : List ℕ} {gc : List ℤ} {all : ℕ} (wp₀ : List ℕ) (wc₀ : List ℤ) {wp : List ℕ} {wc : List ℤ}
-    → Given v sp sc fp fc → Allowed v sp sc fp fc → largest ≡ largestPower v (terms fp fc) → Stands (partAt v 0 (terms fp fc)) all gp gc → mostTerms + mostTerms ≡ length gp → mostTerms + mostTerms ≡ length gc
+    → CanPut v sp sc fp fc → Allowed v sp sc fp fc → largest ≡ largestPower v (terms fp fc) → Stands (partAt v 0 (terms fp fc)) all gp gc → mostTerms + mostTerms ≡ length gp → mostTerms + mostTerms ≡ length gc
     → {answer : Formed ℕ} → (answer, wp, wc) ≡ formedInto (formed (integer variables (pos 1))) wp₀ wc₀ → mostTerms ≡ length wp → mostTerms ≡ length wc
     → Putting v largest sp sc fp fc gp gc wp wc 1 all 0
 unfolding powerSpread rowsTo power
 start {v} {sp = sp} {sc} {fp} {fc} wp₀ wc₀ g a largest-is stands words-room coefficients-room told power-words-room power-coefficients-room =
     let held = part-holdable v 0 (g .known) (holdable (g .into .held)) in
     let part = partAt v 0 (terms fp fc) in
-    let same : gather (pairs part (unit variables)) ≡ part = ap gather (pairs-unit variables part (held .long)) ∙ gather-fixed part (held .strict) in
+    let same : gather (pairs part (oneSum variables)) ≡ part = ap gather (pairs-unit variables part (held .long)) ∙ gather-fixed part (held .strict) in
     record {
       given-pair = g;
       allowed = a;

@@ -16,7 +16,6 @@ use Rattle.algebra.specs.Word.{word, exponents, terms, Valid}
 use Rattle.algebra.proofs.Patterns.Laws.{without-degree}
 use Rattle.algebra.proofs.Patterns.Order.{order-without}
 use Rattle.algebra.proofs.Patterns.Word.{exponents-length}
-use Rattle.algebra.proofs.Sums.Held.{word-for}
 use Rattle.algebra.proofs.Sums.Every.{Every, Long, UpTo, degree-every, every-degree}
 use Rattle.algebra.proofs.Sums.Ordered.{before-is, is-before, ahead-trans, order-cons, order-head, order-tail}
 use Rattle.sums.specs.Held.{Held}
@@ -171,7 +170,7 @@ module _ {v k : ℕ} {fp : List ℕ} {fc : List ℤ} {ws₀ : List ℕ} {cs₀ :
           stored = rw more
               (stored-next (f .stored) (rest v t) count w (getD fc i (pos 0)) (f .many)
               (omega (arith, f .fewer, f .words-room, f .into .few)) (omega (arith, f .fewer, f .coefficients-room, f .into .few))
-              (word-is ∙ sym (word-for (without v (t .pattern)) long)) refl);
+              (word-is) refl);
           many = ap length more ∙ length-append (partAt v k before) (rest v t ∷ []) ∙ ap (λ (n : ℕ). n + 1) (f .many);
           fewer = omega (arith, f .fewer);
           known = f .known;

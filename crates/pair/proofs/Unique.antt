@@ -2,8 +2,9 @@
 use mathlib.Core.Path.{_≡_}
 use Prim.Native.Nat.{ℕ}
 use denote.Ref.{now}
-use Rattle.answers.proofs.Outcomes.{One, OneLent, same}
-use Rattle.sums.proofs.Unique.{Areas, told-one}
+use Rattle.answers.proofs.Outcomes.{same}
+use Rattle.answers.specs.Promised.{One, OneLent}
+use Rattle.sums.proofs.Unique.{TwoAreas, told-one}
 use Rattle.pair.specs.declared.Measured.{Measured}
 use Rattle.pair.proofs.measure.Reads as measure
 use Rattle.pair.proofs.putting.put.Reads as put
@@ -15,5 +16,5 @@ measured h h' = λ j. record { degree = same (h .0) (h' .0) j; weight = same (h 
 pub measure-one : One measure.Learnt
 measure-one k a r r' e e' h h' = measured h h'
 
-pub put-one : OneLent put.Learnt {L = Areas} (λ k e. (now (e .1 .1 .1 .1 .1 .1 .0), now (e .1 .1 .1 .1 .1 .1 .1 .0)))
+pub put-one : OneLent put.Learnt {L = TwoAreas} (λ k e. (now (e .1 .1 .1 .1 .1 .1 .0), now (e .1 .1 .1 .1 .1 .1 .1 .0)))
 put-one k a r r' e e' h h' = told-one r r' (same h h')

@@ -7,7 +7,7 @@ use Rattle.algebra.specs.Substitute.{pairDegree, pairWeight}
 use Rattle.algebra.specs.Word.{terms}
 use Rattle.sums.specs.Held.{HeldSum}
 
-pub record Given (v : ℕ) (sp : List ℕ) (sc : List ℤ) (fp : List ℕ) (fc : List ℤ) : Type 0 where
+pub record CanPut (v : ℕ) (sp : List ℕ) (sc : List ℤ) (fp : List ℕ) (fc : List ℤ) : Type 0 where
   pub known : v < variables
   pub put : HeldSum sp sc
   pub into : HeldSum fp fc

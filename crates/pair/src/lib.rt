@@ -8,7 +8,7 @@ ghost use Rattle.algebra.specs.Substitute.{pairDegree, pairWeight, largestPower
 ghost use Rattle.algebra.specs.Word.{terms};
 ghost use Rattle.sums.specs.Held.{HeldSum};
 ghost use Rattle.weights.specs.Capped.{capped};
-ghost use Rattle.pair.specs.Asked.{Given};
+ghost use Rattle.pair.specs.Asked.{CanPut};
 
 pub mod putting;
 
@@ -46,7 +46,7 @@ fn size_of(sp: &[u64], sc: &[i64]) -> Size
 // Term by term: the other exponents added and the power of v times the degree of the sum that is put; the absolute coefficient times the weight of that
 // sum, raised.
 pub fn measure(v: u64, sp: &[u64], sc: &[i64], fp: &[u64], fc: &[i64]) -> Measured
-    requires { ⌜ Given v (now sp) (now sc) (now fp) (now fc) ⌝ }
+    requires { ⌜ CanPut v (now sp) (now sc) (now fp) (now fc) ⌝ }
     ensures { λ r. ⌜ (r .degree ≡ pairDegree v (terms (now (sp .entry)) (now (sc .entry))) (terms (now (fp .entry)) (now (fc .entry)))) × (r .weight ≡ capped (pairWeight v (terms (now (sp .entry)) (now (sc .entry))) (terms (now (fp .entry)) (now (fc .entry))))) × (r .power ≡ largestPower v (terms (now (fp .entry)) (now (fc .entry)))) ⌝ }
 {
     let size = size_of(sp, sc);

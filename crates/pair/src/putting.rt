@@ -19,7 +19,7 @@ ghost use Rattle.sums.specs.Held.{Held};
 ghost use Rattle.sums.specs.Asked.{Room, Factors};
 ghost use Rattle.sums.specs.Formed.{formedOf, productOf, withRow, formedInto};
 ghost use Rattle.sums.specs.Rows.{Stands, Added};
-ghost use Rattle.pair.specs.Asked.{Given, Allowed};
+ghost use Rattle.pair.specs.Asked.{CanPut, Allowed};
 ghost use Rattle.pair.specs.Formed.{pairOf};
 ghost use Rattle.pair.specs.Rows.{partAt, rowsAt, CanAddRows, CanAddPairs};
 
@@ -176,7 +176,7 @@ pub fn put(
     patterns: &mut [u64],
     coefficients: &mut [i64],
 ) -> Formed
-    requires { ⌜ Given v (now sp) (now sc) (now fp) (now fc) ⌝ }
+    requires { ⌜ CanPut v (now sp) (now sc) (now fp) (now fc) ⌝ }
     requires { ⌜ Allowed v (now sp) (now sc) (now fp) (now fc) ⌝ }
     requires { ⌜ largest ≡ largestPower v (terms (now fp) (now fc)) ⌝ }
     requires { ⌜ Room (now patterns) (now coefficients) ⌝ }

@@ -11,17 +11,20 @@ use Rattle.answers.specs.Judge.{Judged.good}
 use Rattle.answers.proofs.Writes.{written-front}
 use Rattle.packed.specs.Packed.{packed}
 use Rattle.packed.proofs.Sizes.{packed-bytes}
-use Rattle.packed.proofs.Results.{PackedSum, sum-judged}
+use Rattle.packed.proofs.Results.{sum-judged}
+use Rattle.packed.specs.Promised.{PackedSum}
 use Rattle.nodes.specs.Node.{Kind, tableOf}
 use Rattle.formula.specs.Meaning.{formulaValue}
 use Rattle.formula.proofs.Tables.{table-one}
-use Rattle.formula.proofs.Simplifying.{Simplified, simplify-means}
+use Rattle.formula.proofs.Simplifying.{simplify-means}
+use Rattle.formula.specs.Promised.{Simplified}
 use Rattle.text.specs.Tree.{Tree, nodesOf}
 use Rattle.text.specs.Grammar.{Formula}
 use Rattle.text.proofs.Formulas.{tree-one}
 use Rattle.text.proofs.Typing.{typed-means}
 use Rattle.text.proofs.Joining.{typed-table}
 use Rattle.text.proofs.Meaning.{tree-value}
+use Rattle.promises.specs.Promised.{HasValues}
 use Rattle.promises.specs.Becomes.{Simplifies, ReadsAs, Becomes, Becomes.a-sum, Becomes.a-table, Becomes.a-text}
 
 -- ---- Packed bytes.
@@ -52,21 +55,6 @@ read-table {text} formula t =
     sym (t .table-is) ∙ typed-table d ∙ ap (λ u. tableOf (nodesOf 0 u)) (tree-one (d .formula) formula)
 
 -- ---- Values.
-
--- a sum with these bytes, and with these values
-pub record HasValues (bytes : List ℕ) (f : List ℤ → ℤ) : Type 0 where
-  pub sum : Sum
-  pub of-bytes : PackedSum bytes sum
-  pub values : (x : List ℤ) → f x ≡ value sum x
-
-table-values : (ks : List Kind) {bytes : List ℕ} → Simplifies (tableOf ks) bytes → HasValues bytes (formulaValue ks)
-table-values ks r =
-    let d = simplified r in
-    record {
-      sum = d .sum;
-      of-bytes = simplified-bytes r;
-      values = λ x. ap (λ js. formulaValue js x) (table-one ks (d .ks) (d .table-is)) ∙ sym (d .means .values x);
-    }
 
 pub becomes-values : {bytes : List ℕ} {f : List ℤ → ℤ} → Becomes bytes f → HasValues bytes f
 becomes-values (a-sum s accepted are) = record { sum = s; of-bytes = record { accepted = accepted; bytes-are = sym are }; values = λ x. refl }

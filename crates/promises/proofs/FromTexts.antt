@@ -15,14 +15,15 @@ use Rattle.answers.specs.Answers.{Told.done, Told.refused, Outcome, outcome, ch
 use Rattle.answers.specs.Areas.{cleared}
 use Rattle.answers.specs.Judge.{Judged, Judged.good, Judged.fails, holding, andThen}
 use Rattle.answers.proofs.Judging.{then-good, then-fails, refused-done}
-use Rattle.packed.specs.Result.{Areas, packedInto, beside, worked}
+use Rattle.packed.specs.Result.{WorkAreas, packedInto, beside}
 use Rattle.packed.proofs.Results.{sum-judged}
-use Rattle.packed.proofs.Working.{hasRoom}
+use Rattle.packed.proofs.Working.{hasRoom, worked}
 use Rattle.nodes.specs.Node.{tableOf}
 use Rattle.formula.specs.Table.{isShape, judgeNodes, judgeTable}
 use Rattle.formula.specs.Simplify.{lastSum, tableSum, simplify}
 use Rattle.formula.proofs.Passing.{table-length, shape-judge, passed-judge}
-use Rattle.formula.proofs.Simplifying.{Simplified, nodes-shape}
+use Rattle.formula.proofs.Simplifying.{nodes-shape}
+use Rattle.formula.specs.Promised.{Simplified}
 use Rattle.text.specs.Limits.{longestText, tablePlaces}
 use Rattle.text.specs.Tree.{Tree, size, nodesOf}
 use Rattle.text.specs.Grammar.{Formula}
@@ -42,7 +43,7 @@ unfolding judgeText holding andThen
 text-tree text t d short few = rw (le-leb (length text) longestText short, read-formula text t d, le-leb (size t) mostNodes few)
 
 -- the sum of a table that simplify takes
-table-sum : {table : List ℤ} {ws : List ℕ} {cs : List ℤ} {area : List ℕ} {n : ℕ} {areas : Areas} (d : Simplified table ws cs area n areas) → tableSum table ≡ good (d .sum)
+table-sum : {table : List ℤ} {ws : List ℕ} {cs : List ℤ} {area : List ℕ} {n : ℕ} {areas : WorkAreas} (d : Simplified table ws cs area n areas) → tableSum table ≡ good (d .sum)
 unfolding tableSum
 table-sum {table} d =
     let shape : isShape (length table) ≡ true = ap (λ t. isShape (length t)) (d .table-is) ∙ ap isShape (table-length (d .ks)) ∙ nodes-shape (length (d .ks)) (d .some) (d .few) in
@@ -57,9 +58,9 @@ told-fails e = cc
 told-room : {r p : ℕ} → refused ROOM 0 ≡ refused r p → r ≡ ROOM
 told-room e = cc
 
-worked-refused : (j : Judged Sum) (ws : List ℕ) (cs : List ℤ) (area : List ℕ) {r p : ℕ} {areas : Areas} → worked j ws cs area ≡ outcome (refused r p) areas → (r ≡ ROOM → ⊥) → j ≡ fails r p
+worked-refused : (j : Judged Sum) (ws : List ℕ) (cs : List ℤ) (area : List ℕ) {r p : ℕ} {areas : WorkAreas} → worked ws cs area j ≡ outcome (refused r p) areas → (r ≡ ROOM → ⊥) → j ≡ fails r p
 unfolding worked packedInto
-worked-refused j ws cs area {r} {p} {areas} e not-room = room (hasRoom ws cs area) j (ap (λ (o : Outcome Areas). o .answer) e)
+worked-refused j ws cs area {r} {p} {areas} e not-room = room (hasRoom ws cs area) j (ap (λ (o : Outcome WorkAreas). o .answer) e)
   where
     room : (b : Bool) (j : Judged Sum) → check b ROOM 0 (ws, cs, area) (beside (cleared 0 workPlaces ws) (cleared (pos 0) workPlaces cs) (packedInto j area)) .answer ≡ refused r p → j ≡ fails r p
     room false j e = absurd (not-room (told-room e))
@@ -93,9 +94,9 @@ module _ {text : List ℕ} {table : List ℤ} (t : ReadsAs text table) where
       then-good (λ u. tableSum (tableOf (nodesOf 0 u))) (text-tree text (d .tree) (d .formula) (d .short) (d .few)) ∙ ap tableSum (sym (read-table (d .formula) t))
 
   -- simplify refuses the table, and not for room
-  pub table-refused : (ws : List ℕ) (cs : List ℤ) (area : List ℕ) {r p : ℕ} {areas : Areas} → simplify table ws cs area ≡ outcome (refused r p) areas → (r ≡ ROOM → ⊥)
+  pub table-refused : (ws : List ℕ) (cs : List ℤ) (area : List ℕ) {r p : ℕ} {areas : WorkAreas} → simplify table ws cs area ≡ outcome (refused r p) areas → (r ≡ ROOM → ⊥)
       → (readings tolerances : List ℕ) → estimateOf text readings tolerances ≡ fails r p
-  unfolding estimateOf simplify
+  unfolding estimateOf simplify worked
   table-refused ws cs area e not-room readings tolerances =
       then-fails (λ s. judgeTerms s readings tolerances) (text-table ∙ worked-refused (tableSum table) ws cs area e not-room)
 

@@ -2,5 +2,6 @@
 pub mod Becoming
 pub mod Spellings
 pub mod Margins
+pub mod Worked
 pub mod FromTexts
 pub mod Cases

@@ -2,26 +2,30 @@
 use mathlib.Core.Path.{_≡_, refl, sym, _∙_, ap, ap₂}
 use mathlib.Core.List.{List}
 use Prim.Native.Nat.{ℕ, _≤_, _<_}
-use lib.IntN.{ℤ, pos, natAbs, _-ℤ_}
+use lib.IntN.{ℤ, pos, _+ℤ_, _-ℤ_}
 use lib.ListN.{length}
+use lib.Signed.{_≤ℤ_}
 use Rattle.algebra.specs.Limits.{largestWeight}
 use Rattle.algebra.specs.Sum.{Sum}
 use Rattle.algebra.specs.Value.{value}
 use Rattle.algebra.specs.Margin.{size, unsigned, raisedBy, margin, Within}
+use Rattle.algebra.proofs.Numbers.Whole.{within-abs}
 use Rattle.algebra.proofs.Sums.Margins.{margin-law}
 use Rattle.answers.specs.Refusals.{RANGE}
 use Rattle.answers.specs.Answers.{Told.done, Told.refused, outcome}
 use Rattle.answers.specs.Areas.{written}
-use Rattle.answers.specs.Host.{hosted}
-use Rattle.packed.proofs.Results.{PackedSum}
+use Rattle.answers.specs.Host.{hosted, narrowUnit}
+use Rattle.packed.specs.Promised.{PackedSum}
 use Rattle.router.specs.Readings.{numbersOf}
-use Rattle.router.specs.Estimate.{answerBytes, answerOf, estimate, hostUnit, estimateIn, marginIn}
+use Rattle.router.specs.Estimate.{answerBytes, answerOf, estimate, estimateIn, marginIn}
 use Rattle.router.proofs.Tolerances.{are-allowed}
-use Rattle.router.proofs.Estimating.{Given, Estimated, Refuses.beyond, estimate-means, refuses-estimate, all-passed}
+use Rattle.router.proofs.Estimating.{estimate-means, refuses-estimate, all-passed}
+use Rattle.router.specs.Promised.{Given, Estimated, EstimateRefuses.beyond}
 use Rattle.router.proofs.Answered.{answer-estimate, answer-margin}
-use Rattle.router.proofs.ForHost.{host-learns}
+use Rattle.router.proofs.ForHost.{estimate-heard}
 use Rattle.promises.specs.Becomes.{Becomes}
-use Rattle.promises.proofs.Becoming.{packed-one, packed-small, HasValues, becomes-values}
+use Rattle.promises.specs.Promised.{HasValues}
+use Rattle.promises.proofs.Becoming.{packed-one, packed-small, becomes-values}
 
 -- ---- An estimate that is done; `answer` is what its area then holds.
 
@@ -52,8 +56,9 @@ module _ {bytes readings tolerances area : List ℕ} {n : ℕ} {answer : List �
     at-readings : estimateIn answer ≡ f rs
     at-readings = the-value (v .of-bytes) ∙ sym (v .values rs)
 
-    near : {x : List ℤ} → Within x rs ts → natAbs (f x -ℤ estimateIn answer) ≤ natAbs (marginIn answer)
-    near {x} w = rw (v .values x, the-value (v .of-bytes), the-margin (v .of-bytes)) (margin-law (v .sum) w)
+    near : {x : List ℤ} → Within x rs ts → ((estimateIn answer -ℤ marginIn answer) ≤ℤ f x) × (f x ≤ℤ (estimateIn answer +ℤ marginIn answer))
+    near {x} w =
+        rw (v .values x, the-value (v .of-bytes), the-margin (v .of-bytes)) (within-abs (value (v .sum) x) (value (v .sum) rs) (margin (v .sum) rs ts) (margin-law (v .sum) w))
 
 -- ---- For whoever calls it from Rattle, and for a C host.
 
@@ -70,27 +75,30 @@ module _ (bytes readings tolerances area : List ℕ) {n : ℕ} {answer : List �
     pub estimate-exact : estimateIn answer ≡ f (numbersOf readings)
     estimate-exact = at-readings done-so (becomes-values b)
 
-    -- and wherever each true number is within its tolerance of its reading, the value is within the margin of the estimate
-    pub demand-3 : {x : List ℤ} → Within x (numbersOf readings) (unsigned (numbersOf tolerances)) → natAbs (f x -ℤ estimateIn answer) ≤ natAbs (marginIn answer)
+    -- and wherever each true number is within its tolerance of its reading, the value is from the estimate less the margin up to both together
+    pub demand-3 : {x : List ℤ} → Within x (numbersOf readings) (unsigned (numbersOf tolerances))
+        → ((estimateIn answer -ℤ marginIn answer) ≤ℤ f x) × (f x ≤ℤ (estimateIn answer +ℤ marginIn answer))
     demand-3 w = near done-so (becomes-values b) w
 
 -- the same, where the host gets 16
-pub demand-3-host : (bytes readings tolerances area : List ℕ) {answer : List ℕ} → hosted hostUnit (estimate bytes readings tolerances area) ≡ (answerBytes, answer)
+pub demand-3-host : (bytes readings tolerances area : List ℕ) {answer : List ℕ} → (answerBytes, answer) ≡ hosted narrowUnit (estimate bytes readings tolerances area)
     → {f : List ℤ → ℤ} → Becomes bytes f → {x : List ℤ} → Within x (numbersOf readings) (unsigned (numbersOf tolerances))
-    → natAbs (f x -ℤ estimateIn answer) ≤ natAbs (marginIn answer)
+    → ((estimateIn answer -ℤ marginIn answer) ≤ℤ f x) × (f x ≤ℤ (estimateIn answer +ℤ marginIn answer))
 demand-3-host bytes readings tolerances area e b w =
-    let v = becomes-values b in
-    near (host-learns bytes (packed-small (v .of-bytes)) readings tolerances area e .is-done refl) v w
+    demand-3 bytes readings tolerances area (estimate-heard bytes (packed-small (becomes-values b .of-bytes)) readings tolerances area e) b w
 
 -- ---- What became a sum is estimated, or beyond the range: no other refusal is left where there is room, and readings and tolerances are given.
 
 module _ {bytes : List ℕ} {f : List ℤ → ℤ} (b : Becomes bytes f) (readings tolerances area : List ℕ) (room : answerBytes ≤ length area) {rs : List ℤ} {ts : List ℕ}
     (g : Given readings tolerances rs ts) where
-  pub becomes-estimated : let s = becomes-values b .sum in size s (raisedBy rs ts) ≤ largestWeight
-      → estimate bytes readings tolerances area ≡ outcome (done answerBytes) (written (answerOf (f rs) (margin s rs ts)) area)
-  becomes-estimated near =
-      let v = becomes-values b in
-      all-passed bytes readings tolerances area room (v .of-bytes) g near ∙ ap (λ z. outcome (done answerBytes) (written (answerOf z (margin (v .sum) rs ts)) area)) (sym (v .values rs))
+  -- s is the sum that has the bytes
+  module _ {s : Sum} (p : PackedSum bytes s) where
+    pub becomes-estimated : size s (raisedBy rs ts) ≤ largestWeight
+        → estimate bytes readings tolerances area ≡ outcome (done answerBytes) (written (answerOf (f rs) (margin s rs ts)) area)
+    becomes-estimated near =
+        let v = becomes-values b in
+        let same : f rs ≡ value s rs = v .values rs ∙ ap (λ u. value u rs) (packed-one (v .of-bytes) p) in
+        all-passed bytes readings tolerances area room p g near ∙ ap (λ z. outcome (done answerBytes) (written (answerOf z (margin s rs ts)) area)) (sym same)
 
-  pub becomes-beyond : largestWeight < size (becomes-values b .sum) (raisedBy rs ts) → estimate bytes readings tolerances area ≡ outcome (refused RANGE 0) area
-  becomes-beyond far = refuses-estimate bytes readings tolerances area (beyond room (becomes-values b .of-bytes) g far)
+    pub becomes-beyond : largestWeight < size s (raisedBy rs ts) → estimate bytes readings tolerances area ≡ outcome (refused RANGE 0) area
+    becomes-beyond far = refuses-estimate bytes readings tolerances area (beyond room p g far)

@@ -9,7 +9,7 @@ use Rattle.algebra.specs.Pattern.{Pattern}
 use Rattle.algebra.specs.Value.{coefficient}
 use Rattle.algebra.proofs.Sums.Equal.{ordered-equal}
 use Rattle.packed.specs.Packed.{packed}
-use Rattle.packed.proofs.Results.{PackedSum}
+use Rattle.packed.specs.Promised.{PackedSum}
 use Rattle.nodes.specs.Node.{Kind, tableOf}
 use Rattle.formula.specs.Meaning.{formulaCoefficient}
 use Rattle.formula.proofs.Tables.{table-one}

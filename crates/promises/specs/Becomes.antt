@@ -10,7 +10,7 @@ use Rattle.algebra.specs.Value.{value}
 use Rattle.algebra.specs.Accepted.{Accepted}
 use Rattle.answers.specs.Answers.{Told.done, outcome}
 use Rattle.packed.specs.Packed.{packed}
-use Rattle.packed.specs.Result.{Areas}
+use Rattle.packed.specs.Result.{WorkAreas}
 use Rattle.nodes.specs.Node.{Kind, tableOf}
 use Rattle.formula.specs.Meaning.{formulaValue}
 use Rattle.formula.specs.Simplify.{simplify}
@@ -24,7 +24,7 @@ pub record Simplifies (table : List ℤ) (bytes : List ℕ) : Type 0 where
   pub coefficients : List ℤ
   pub area : List ℕ
   pub count : ℕ
-  pub areas : Areas
+  pub areas : WorkAreas
   pub is-done : simplify table words coefficients area ≡ outcome (done count) areas
   pub bytes-are : take count (areas .2) ≡ bytes
 

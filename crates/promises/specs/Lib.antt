@@ -1,2 +1,4 @@
 pub mod Becomes
 pub mod FromText
+pub mod Promised
+pub mod Cases

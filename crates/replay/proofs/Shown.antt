@@ -14,19 +14,20 @@ use Rattle.algebra.specs.Held.{wordsOf, coefficientsOf, firstTerms}
 use Rattle.answers.specs.Refusals.{ROOM, SHAPE, SUM}
 use Rattle.answers.specs.Answers.{Told, Told.done, Told.refused, Outcome, outcome, check}
 use Rattle.answers.specs.Areas.{written, cleared}
-use Rattle.answers.specs.Host.{hosted}
+use Rattle.answers.specs.Host.{hosted, narrowUnit}
 use Rattle.answers.specs.Judge.{Judged, Judged.good, Judged.fails}
 use Rattle.packed.specs.Packed.{packed, mostBytes}
 use Rattle.packed.specs.ReadSum.{readWhole}
 use Rattle.packed.specs.Whole.{judged}
-use Rattle.packed.specs.Result.{Areas, heldInto, packedInto, beside, worked}
+use Rattle.packed.specs.Result.{WorkAreas, heldInto, packedInto, beside}
+use Rattle.packed.proofs.Working.{worked}
 use Rattle.packed.specs.Unpack.{unpack}
 use Rattle.packed.specs.Pack.{goodTerms, pack}
 use Rattle.formula.specs.Simplify.{tableSum, simplify}
 use Rattle.formula.proofs.Passing.{table-length}
 use Rattle.change.specs.Slope.{slope}
 use Rattle.change.specs.Substitute.{judgeSubstitute, substitute}
-use Rattle.router.specs.Estimate.{judgeEstimate, answerBytes, answerInto, estimate, hostUnit}
+use Rattle.router.specs.Estimate.{judgeEstimate, answerBytes, answerInto, estimate}
 use Rattle.nodes.specs.Node.{tableOf}
 use Rattle.text.specs.Tree.{Tree, nodesOf}
 use Rattle.text.specs.Limits.{tablePlaces}
@@ -73,11 +74,11 @@ packed-shows (good s) area e = shows-written (packed s) area e refl
 packed-shows (fails refusal place) area e = shows-refused e
 
 worked-shows : (j : Judged Sum) (ws : List ℕ) (cs : List ℤ) (area : List ℕ) {t : Told} {ws' : List ℕ} {cs' : List ℤ} {x : List ℕ}
-    → outcome t (ws', cs', x) ≡ worked j ws cs area → Shows itself (length x) t
+    → outcome t (ws', cs', x) ≡ worked ws cs area j → Shows itself (length x) t
 unfolding worked
 worked-shows j ws cs area {t} {ws'} {cs'} {x} e = go (leb workPlaces (length ws) && (leb workPlaces (length cs) && leb (mostBytes variables) (length area))) e
   where
-    only : Outcome Areas → Outcome (List ℕ)
+    only : Outcome WorkAreas → Outcome (List ℕ)
     only o = outcome (o .answer) (o .areas .2)
 
     go : (b : Bool) → outcome t (ws', cs', x) ≡ check b ROOM 0 (ws, cs, area) (beside (cleared 0 workPlaces ws) (cleared (pos 0) workPlaces cs) (packedInto j area))
@@ -87,12 +88,12 @@ worked-shows j ws cs area {t} {ws'} {cs'} {x} e = go (leb workPlaces (length ws)
 
 pub simplify-shows : (table : List ℤ) (ws : List ℕ) (cs : List ℤ) (area : List ℕ) {t : Told} {ws' : List ℕ} {cs' : List ℤ} {x : List ℕ}
     → outcome t (ws', cs', x) ≡ simplify table ws cs area → Shows itself (length x) t
-unfolding simplify
+unfolding simplify worked
 simplify-shows table ws cs area e = worked-shows (tableSum table) ws cs area e
 
 pub substitute-shows : (bytes list ws : List ℕ) (cs : List ℤ) (area : List ℕ) {t : Told} {ws' : List ℕ} {cs' : List ℤ} {x : List ℕ}
     → outcome t (ws', cs', x) ≡ substitute bytes list ws cs area → Shows itself (length x) t
-unfolding substitute
+unfolding substitute worked
 substitute-shows bytes list ws cs area e = worked-shows (judgeSubstitute bytes list) ws cs area e
 
 pub slope-shows : (bytes : List ℕ) (v : ℕ) (area : List ℕ) {t : Told} {x : List ℕ} → outcome t x ≡ slope bytes v area → Shows itself (length x) t
@@ -137,12 +138,12 @@ text-shows text table {t} {x} e = go (leb tablePlaces (length table)) (judgeText
     go false j f = shows-refused f
 
 -- a C host's number is 16 only if there was room
-pub estimate-shows : (bytes readings tolerances area : List ℕ) {number : ℕ} {x : List ℕ} → (number, x) ≡ hosted hostUnit (estimate bytes readings tolerances area)
+pub estimate-shows : (bytes readings tolerances area : List ℕ) {number : ℕ} {x : List ℕ} → (number, x) ≡ hosted narrowUnit (estimate bytes readings tolerances area)
     → length x ≡ length area → Shows itself (length x) (hostTold number)
 unfolding estimate
 estimate-shows bytes readings tolerances area {number} {x} e same = go (leb answerBytes (length area)) refl e (eqb number answerBytes) refl
   where
-    go : (b : Bool) → leb answerBytes (length area) ≡ b → (number, x) ≡ hosted hostUnit (check b ROOM 0 area (answerInto (judgeEstimate bytes readings tolerances) area))
+    go : (b : Bool) → leb answerBytes (length area) ≡ b → (number, x) ≡ hosted narrowUnit (check b ROOM 0 area (answerInto (judgeEstimate bytes readings tolerances) area))
         → (d : Bool) → eqb number answerBytes ≡ d → Shows itself (length x) (hostTold number)
     go b room f false is = rw is (record { inside = tt })
     go true room f true is = rw is (record { inside = omega (arith, leb-true answerBytes (length area) room, same) })

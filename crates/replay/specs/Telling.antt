@@ -3,7 +3,8 @@ use mathlib.Core.Bool.{cond}
 use Prim.Native.Nat.{ℕ, _/_, _%_, _≤_}
 use lib.Dec.{eqb}
 use Rattle.answers.specs.Answers.{Told, Told.done, Told.refused}
-use Rattle.router.specs.Estimate.{answerBytes, hostUnit}
+use Rattle.answers.specs.Host.{narrowUnit}
+use Rattle.router.specs.Estimate.{answerBytes}
 use Rattle.replay.specs.declared.telling.Told as code
 use Rattle.replay.specs.declared.telling.Told.the-variants.{Done, Refused}
 
@@ -13,7 +14,7 @@ toldAs (Refused refusal place) = refused refusal place
 
 -- the number for a C host, taken apart
 abbrev pub hostTold : ℕ → Told
-hostTold number = cond (eqb number answerBytes) (done answerBytes) (refused (number / hostUnit) (number % hostUnit))
+hostTold number = cond (eqb number answerBytes) (done answerBytes) (refused (number / narrowUnit) (number % narrowUnit))
 
 -- what is said to be written fits: a rule gives the places for the number returned
 abbrev pub shows : (ℕ → ℕ) → ℕ → Told → Type 0

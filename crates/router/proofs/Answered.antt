@@ -15,7 +15,7 @@ use Rattle.router.specs.Bytes.{numberBytes, signedNumber, signedBytes}
 use Rattle.router.specs.Estimate.{estimateIn, marginIn}
 use Rattle.router.proofs.Complement.{bytes-length, small-home, signed-back}
 use Rattle.router.proofs.Numbering.{numbers-length}
-use Rattle.router.proofs.Estimating.{Given, Estimated}
+use Rattle.router.specs.Promised.{Given, Estimated}
 
 -- two numbers of eight bytes, one after the other, and what follows them
 module _ (y z : ℤ) (rest : List ℕ) where

@@ -27,12 +27,14 @@ use Rattle.router.specs.declared.Found.the-variants.{Within, Beyond}
 use Rattle.router.proofs.Found.{the-type}
 use Rattle.router.proofs.Complement.{bytes-length}
 use Rattle.router.proofs.Numbering.{numbers-length}
-use Rattle.router.proofs.Tolerances.{FirstNegative, at-most, first-negative, allowed-are}
-use Rattle.router.proofs.Estimating.{Long, Given, range-beyond, range-within}
+use Rattle.router.proofs.Tolerances.{at-most, first-negative, allowed-are}
+use Rattle.router.specs.Promised.{FirstNegative}
+use Rattle.router.proofs.Estimating.{range-beyond, range-within}
+use Rattle.router.specs.Promised.{RightLength, Given}
 
 -- ---- Readings and tolerances, read into arrays.
 
-module _ {readings tolerances : List ℕ} {rs ts : List ℤ} {good : ℕ} (l : Long readings tolerances) (rs-are : rs ≡ numbersOf readings) (ts-are : ts ≡ numbersOf tolerances) (good-is : good ≡ beforeNegative ts) where
+module _ {readings tolerances : List ℕ} {rs ts : List ℤ} {good : ℕ} (l : RightLength readings tolerances) (rs-are : rs ≡ numbersOf readings) (ts-are : ts ≡ numbersOf tolerances) (good-is : good ≡ beforeNegative ts) where
   many : length ts ≡ variables
   many = ap length ts-are ∙ numbers-length variables tolerances (l .tolerances-long)
 

@@ -12,9 +12,10 @@ use Rattle.algebra.specs.Sum.{Sum, weight}
 use Rattle.algebra.specs.Value.{total, patternValue, value}
 use Rattle.algebra.specs.Margin.{patternSize, size, unsigned, raisedBy, margin}
 use Rattle.answers.specs.Refusals.{SUM, READING, RANGE}
-use Rattle.answers.specs.Host.{hosted}
+use Rattle.answers.specs.Host.{hosted, narrowUnit}
 use Rattle.answers.specs.Judge.{Judged, Judged.good, Judged.fails, holding, andThen}
-use Rattle.answers.proofs.Tables.{Each, _also_}
+use Rattle.answers.proofs.Tables.{_also_}
+use Rattle.answers.specs.Promised.{Each}
 use Rattle.numbers.specs.Item as item
 use Rattle.numbers.specs.Number.{readByte, readGroups, readNumber}
 use Rattle.numbers.specs.Code.{decode}
@@ -23,16 +24,10 @@ use Rattle.packed.specs.ReadSum.{readCoefficient, readExponents, readTerm, read
 use Rattle.packed.specs.Whole.{judged}
 use Rattle.router.specs.Bytes.{plainNumber, signedNumber, plainBytes, signedBytes}
 use Rattle.router.specs.Readings.{numbersOf, spelled, beforeNegative, judgeReadings}
-use Rattle.router.specs.Estimate.{Estimate, judgeRange, judgeTerms, judgeEstimate, answerInto, estimate, hostUnit}
+use Rattle.router.specs.Cases.{ofLetters, eight, numbersIn, together, valueAt, isWithin}
+use Rattle.router.specs.Estimate.{judgeRange, judgeTerms, judgeEstimate, answerInto, estimate}
 
 -- ---- A case is about packed bytes, readings and tolerances.
-
--- numbers of the first letters; the others are 0
-abbrev pub filled : List ℤ → List ℤ
-filled ns = ns ++ replicate (variables - length ns) (pos 0)
-
-abbrev pub eight : List ℤ → List ℕ
-eight ns = spelled (filled ns)
 
 pub data Case : Type 0 where
   -- the estimate and its margin, or the refusal and its place
@@ -44,31 +39,13 @@ pub data Case : Type 0 where
   -- true numbers within the tolerances, and the value there, which is the estimate and the margin together
   reaches : List ℕ → List ℤ → List ℤ → List ℤ → ℤ → Case
 
-abbrev pub numbersIn : Judged Estimate → Judged (ℤ × ℕ)
-numbersIn (good e) = good (e .estimate, e .margin)
-numbersIn (fails refusal place) = fails refusal place
-
-abbrev pub together : Judged Estimate → Judged ℤ
-together (good e) = good (e .estimate +ℤ pos (e .margin))
-together (fails refusal place) = fails refusal place
-
-abbrev pub valueAt : Judged Sum → List ℤ → Judged ℤ
-valueAt (good s) x = good (value s x)
-valueAt (fails refusal place) x = fails refusal place
-
-abbrev pub isWithin : List ℤ → List ℤ → List ℕ → Bool
-isWithin [] rs ts = true
-isWithin (x ∷ xs) [] ts = false
-isWithin (x ∷ xs) (r ∷ rs) [] = false
-isWithin (x ∷ xs) (r ∷ rs) (t ∷ ts) = leb (natAbs (x -ℤ r)) t && isWithin xs rs ts
-
 abbrev pub Says : Case → Type 0
 Says (gives bytes rs ts said) = numbersIn (judgeEstimate bytes (eight rs) (eight ts)) ≡ said
 Says (takes bytes readings tolerances said) = numbersIn (judgeEstimate bytes readings tolerances) ≡ said
-Says (leaves bytes rs ts area area' number) = hosted hostUnit (estimate bytes (eight rs) (eight ts) area) ≡ (number, area')
+Says (leaves bytes rs ts area area' number) = hosted narrowUnit (estimate bytes (eight rs) (eight ts) area) ≡ (number, area')
 Says (reaches bytes rs ts xs n) =
-    (isWithin (filled xs) (filled rs) (unsigned (filled ts)) ≡ true)
-    × ((valueAt (judged SUM (readWhole variables bytes)) (filled xs) ≡ good n) × (together (judgeEstimate bytes (eight rs) (eight ts)) ≡ good n))
+    (isWithin (ofLetters xs) (ofLetters rs) (unsigned (ofLetters ts)) ≡ true)
+    × ((valueAt (judged SUM (readWhole variables bytes)) (ofLetters xs) ≡ good n) × (together (judgeEstimate bytes (eight rs) (eight ts)) ≡ good n))
 
 -- ---- Short names. A coefficient stands as its code: 2n for n from 0 up, and −2n − 1 for n below.
 

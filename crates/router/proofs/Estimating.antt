@@ -19,25 +19,16 @@ use Rattle.answers.specs.Judge.{Judged, Judged.good, Judged.fails, holding}
 use Rattle.answers.proofs.Judging.{then-good, then-fails, good-fails}
 use Rattle.packed.specs.Packed.{packed}
 use Rattle.packed.specs.ReadSum.{readWhole}
-use Rattle.packed.proofs.Results.{PackedSum, AtFault, Reading, Reading.a-sum, Reading.a-fault, reading, fault-judged, sum-judged}
+use Rattle.packed.proofs.Results.{Reading, Reading.a-sum, Reading.a-fault, reading, fault-judged, sum-judged}
+use Rattle.packed.specs.Promised.{PackedSum, AtFault}
 use Rattle.router.specs.Readings.{readingBytes, numbersOf, spelled, beforeNegative, Readings, judgeReadings}
 use Rattle.router.specs.Estimate.{Estimate, judgeRange, judgeTerms, judgeEstimate, answerBytes, answerOf, answerInto, estimate}
+use Rattle.router.specs.Promised.{RightLength, Given, FirstNegative, Estimated, EstimateRefuses, EstimateRefuses.no-room, EstimateRefuses.at-sum, EstimateRefuses.at-length, EstimateRefuses.at-tolerance, EstimateRefuses.beyond}
 use Rattle.router.proofs.Complement.{AtHome}
 use Rattle.router.proofs.Numbering.{spelled-length, numbers-back}
-use Rattle.router.proofs.Tolerances.{FirstNegative, at-most, first-negative, at-first, negative-inside, allowed-are, are-allowed}
+use Rattle.router.proofs.Tolerances.{at-most, first-negative, at-first, negative-inside, allowed-are, are-allowed}
 
 -- ---- Readings and tolerances.
-
--- both are as long as they must be
-pub record Long (readings tolerances : List ℕ) : Type 0 where
-  pub readings-long : length readings ≡ readingBytes variables
-  pub tolerances-long : length tolerances ≡ readingBytes variables
-
--- the readings are rs; the tolerances are ts, none of them negative
-pub record Given (readings tolerances : List ℕ) (rs : List ℤ) (ts : List ℕ) : Type 0 where
-  pub long : Long readings tolerances
-  pub readings-are : numbersOf readings ≡ rs
-  pub tolerances-are : numbersOf tolerances ≡ map pos ts
 
 -- any eight readings of 16 bits, and any eight tolerances below 2^15, can be given
 pub given-spelled : (rs : List ℤ) (ts : List ℕ) → length rs ≡ variables → length ts ≡ variables → ((i : ℕ) → AtHome 2 (getD rs i (pos 0))) → ((i : ℕ) → getD ts i 0 < 32768)
@@ -58,8 +49,8 @@ given-spelled rs ts many as-many home small = record {
 
 module _ (readings tolerances : List ℕ) where
   pub data Verdict : Type 0 where
-    not-long : (Long readings tolerances → ⊥) → Verdict
-    negative : Long readings tolerances → (v : ℕ) → FirstNegative (numbersOf tolerances) v → Verdict
+    not-long : (RightLength readings tolerances → ⊥) → Verdict
+    negative : RightLength readings tolerances → (v : ℕ) → FirstNegative (numbersOf tolerances) v → Verdict
     all-given : (rs : List ℤ) (ts : List ℕ) → Given readings tolerances rs ts → Verdict
 
   abbrev hasLength : List ℕ → Type 0
@@ -68,17 +59,17 @@ module _ (readings tolerances : List ℕ) where
   verdict : Verdict
   verdict = go (ℕ-discrete (length readings) (readingBytes variables)) (ℕ-discrete (length tolerances) (readingBytes variables))
     where
-      signs : Long readings tolerances → Dec (beforeNegative (numbersOf tolerances) ≡ length (numbersOf tolerances)) → Verdict
+      signs : RightLength readings tolerances → Dec (beforeNegative (numbersOf tolerances) ≡ length (numbersOf tolerances)) → Verdict
       signs l (yes all) = all-given (numbersOf readings) (unsigned (numbersOf tolerances)) (record { long = l; readings-are = refl; tolerances-are = allowed-are (numbersOf tolerances) all })
       signs l (no some) = negative l (beforeNegative (numbersOf tolerances)) (first-negative (numbersOf tolerances) (omega (arith, at-most (numbersOf tolerances), some)))
 
       go : Dec (hasLength readings) → Dec (hasLength tolerances) → Verdict
       go (no r) t = not-long (λ l. r (l .readings-long))
       go (yes r) (no t) = not-long (λ l. t (l .tolerances-long))
-      go (yes r) (yes t) = let l : Long readings tolerances = record { readings-long = r; tolerances-long = t } in signs l (ℕ-discrete (beforeNegative (numbersOf tolerances)) (length (numbersOf tolerances)))
+      go (yes r) (yes t) = let l : RightLength readings tolerances = record { readings-long = r; tolerances-long = t } in signs l (ℕ-discrete (beforeNegative (numbersOf tolerances)) (length (numbersOf tolerances)))
 
   -- what judging says of each
-  not-long-judge : (Long readings tolerances → ⊥) → judgeReadings readings tolerances ≡ fails READING 0
+  not-long-judge : (RightLength readings tolerances → ⊥) → judgeReadings readings tolerances ≡ fails READING 0
   unfolding judgeReadings holding
   not-long-judge short = go (ℕ-discrete (length readings) (readingBytes variables)) (ℕ-discrete (length tolerances) (readingBytes variables))
     where
@@ -87,7 +78,7 @@ module _ (readings tolerances : List ℕ) where
       go (yes r) (no t) = rw (eq-eqb (length readings) (readingBytes variables) r, ne-eqb (length tolerances) (readingBytes variables) t)
       go (yes r) (yes t) = absurd (short (record { readings-long = r; tolerances-long = t }))
 
-  module _ (l : Long readings tolerances) where
+  module _ (l : RightLength readings tolerances) where
     negative-judge : {v : ℕ} → FirstNegative (numbersOf tolerances) v → judgeReadings readings tolerances ≡ fails READING v
     unfolding judgeReadings holding
     negative-judge {v} first =
@@ -152,11 +143,11 @@ unfolding answerInto
 done-leaves area e = ap (λ j. answerInto j area) e
 
 module _ (s : Sum) (readings tolerances : List ℕ) where
-  pub terms-not-long : (Long readings tolerances → ⊥) → judgeTerms s readings tolerances ≡ fails READING 0
+  pub terms-not-long : (RightLength readings tolerances → ⊥) → judgeTerms s readings tolerances ≡ fails READING 0
   unfolding judgeTerms
   terms-not-long short = then-fails (judgeRange s) (not-long-judge readings tolerances short)
 
-  pub terms-negative : {v : ℕ} → Long readings tolerances → FirstNegative (numbersOf tolerances) v → judgeTerms s readings tolerances ≡ fails READING v
+  pub terms-negative : {v : ℕ} → RightLength readings tolerances → FirstNegative (numbersOf tolerances) v → judgeTerms s readings tolerances ≡ fails READING v
   unfolding judgeTerms
   terms-negative l first = then-fails (judgeRange s) (negative-judge readings tolerances l first)
 
@@ -168,28 +159,6 @@ module _ (s : Sum) (readings tolerances : List ℕ) where
 -- ---- The outcomes.
 
 module _ (bytes readings tolerances area : List ℕ) where
-  -- it is done: every check passes, and the answer has the value at the readings and the margin
-  pub record Estimated (n : ℕ) (area' : List ℕ) : Type 0 where
-    pub sum : Sum
-    pub rs : List ℤ
-    pub ts : List ℕ
-    pub room : answerBytes ≤ length area
-    pub of-bytes : PackedSum bytes sum
-    pub given : Given readings tolerances rs ts
-    pub within : size sum (raisedBy rs ts) ≤ largestWeight
-    pub sixteen : n ≡ answerBytes
-    pub area-is : area' ≡ written (answerOf (value sum rs) (margin sum rs ts)) area
-
-  -- it is refused: the refusal, its place, and the area, which stays
-  pub data Refuses : ℕ → ℕ → List ℕ → Type 0 where
-    no-room : length area < answerBytes → Refuses ROOM 0 area
-    at-sum : {p : ℕ} → answerBytes ≤ length area → AtFault (readWhole variables bytes) p → Refuses SUM p area
-    at-length : {s : Sum} → answerBytes ≤ length area → PackedSum bytes s → (Long readings tolerances → ⊥) → Refuses READING 0 area
-    at-tolerance : {s : Sum} {v : ℕ} → answerBytes ≤ length area → PackedSum bytes s → Long readings tolerances → FirstNegative (numbersOf tolerances) v
-        → Refuses READING v area
-    beyond : {s : Sum} {rs : List ℤ} {ts : List ℕ} → answerBytes ≤ length area → PackedSum bytes s → Given readings tolerances rs ts
-        → largestWeight < size s (raisedBy rs ts) → Refuses RANGE 0 area
-
   without-room : length area < answerBytes → estimate bytes readings tolerances area ≡ outcome (refused ROOM 0) area
   unfolding estimate
   without-room short = rw (lt-leb answerBytes (length area) short)
@@ -208,7 +177,7 @@ module _ (bytes readings tolerances area : List ℕ) where
     unfolding judgeEstimate
     after-sum p = with-room ∙ ap (λ j. answerInto j area) (then-good (λ s. judgeTerms s readings tolerances) (sum-judged p))
 
-  pub refuses-estimate : {refusal p : ℕ} {area' : List ℕ} → Refuses refusal p area' → estimate bytes readings tolerances area ≡ outcome (refused refusal p) area'
+  pub refuses-estimate : {refusal p : ℕ} {area' : List ℕ} → EstimateRefuses bytes readings tolerances area refusal p area' → estimate bytes readings tolerances area ≡ outcome (refused refusal p) area'
   refuses-estimate (no-room short) = without-room short
   refuses-estimate (at-sum room a) = at-fault room a
   refuses-estimate (at-length {s} room p short) = after-sum room p ∙ refused-leaves area (terms-not-long s readings tolerances short)
@@ -231,12 +200,12 @@ module _ (bytes : List ℕ) (byte : (i : ℕ) → getD bytes i 0 < 256) (reading
   -- what stands behind an answer, and behind an outcome
   abbrev pub Behind : Told → List ℕ → Type 0
   Behind (done n) area' = Estimated bytes readings tolerances area n area'
-  Behind (refused refusal p) area' = Refuses bytes readings tolerances area refusal p area'
+  Behind (refused refusal p) area' = EstimateRefuses bytes readings tolerances area refusal p area'
 
   abbrev pub Explains : Outcome (List ℕ) → Type 0
   Explains o = Behind (o .answer) (o .areas)
 
-  by-refusal : {refusal p : ℕ} {area' : List ℕ} → Refuses bytes readings tolerances area refusal p area' → Explains (estimate bytes readings tolerances area)
+  by-refusal : {refusal p : ℕ} {area' : List ℕ} → EstimateRefuses bytes readings tolerances area refusal p area' → Explains (estimate bytes readings tolerances area)
   by-refusal d = subst Explains (sym (refuses-estimate bytes readings tolerances area d)) d
 
   pub explained : Explains (estimate bytes readings tolerances area)
@@ -273,5 +242,5 @@ module _ (bytes : List ℕ) (byte : (i : ℕ) → getD bytes i 0 < 256) (reading
   estimate-means e = subst Explains e explained
 
   pub estimate-refuses : {refusal p : ℕ} {area' : List ℕ} → estimate bytes readings tolerances area ≡ outcome (refused refusal p) area'
-      → Refuses bytes readings tolerances area refusal p area'
+      → EstimateRefuses bytes readings tolerances area refusal p area'
   estimate-refuses e = subst Explains e explained

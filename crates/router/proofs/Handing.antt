@@ -9,7 +9,8 @@ use Rattle.algebra.specs.Held.{firstTerms}
 use Rattle.answers.specs.Answers.{Told, Outcome, outcome}
 use Rattle.packed.proofs.Results.{Handed, Whole, written-terms}
 use Rattle.router.specs.Estimate.{judgeTerms, answerBytes, answerInto, estimate}
-use Rattle.router.proofs.Estimating.{Refuses.at-sum, refuses-estimate, after-sum}
+use Rattle.router.proofs.Estimating.{refuses-estimate, after-sum}
+use Rattle.router.specs.Promised.{EstimateRefuses.at-sum}
 
 module _ (bytes readings tolerances area : List ℕ) (room : answerBytes ≤ length area) where
   pub estimate-handed : {t : Told} → Handed bytes t → outcome t area ≡ estimate bytes readings tolerances area

@@ -14,7 +14,8 @@ use mir.Val.{SFits}
 use mir.ValLaws.{toZ-ofZ}
 use Rattle.numbers.proofs.Signs.{held}
 use Rattle.router.specs.Readings.{beforeNegative}
-use Rattle.router.proofs.Tolerances.{NoneBefore, at-first, all-allowed}
+use Rattle.router.proofs.Tolerances.{at-first, all-allowed}
+use Rattle.router.specs.Promised.{NoneBefore}
 
 pub record Passing (ts : List ℤ) (v : ℕ) : Type 0 where
   pub inside : v ≤ length ts

@@ -11,7 +11,7 @@ use lib.Seq.{getD-set-same, getD-set-other}
 use Rattle.algebra.specs.Limits.{variables}
 use Rattle.algebra.specs.Pattern.{Pattern, exponent}
 use Rattle.router.specs.Inside.Parts.{Holds, Times}
-use Rattle.router.specs.Inside.Powers.{stride, Stands, Row, RowFrom, Rows, Under}
+use Rattle.router.specs.Inside.Powers.{stride, PowerAt, Row, RowFrom, Rows, Under}
 use Rattle.router.proofs.Multiplying.{themselves, next-raised, next-power, no-power}
 
 -- ---- One row.
@@ -48,9 +48,9 @@ module _ {b : ℕ} {a : ℤ} {start : ℕ} {upper₀ : List ℕ} {powers₀ : Li
       next : Holds raised' power' (b ^ (e + 1)) (pow a (e + 1))
       next = rw (next-raised b e, next-power a e) at (times (b ^ e) b (pow a e) a (f .now-is) (themselves within))
 
-      powers-at : (k : ℕ) → 0 < k → k ≤ e + 1 → Dec (k ≡ e + 1) → Stands b a k (start + k) (set upper (start + (e + 1)) raised') (set powers (start + (e + 1)) power')
+      powers-at : (k : ℕ) → 0 < k → k ≤ e + 1 → Dec (k ≡ e + 1) → PowerAt b a k (start + k) (set upper (start + (e + 1)) raised') (set powers (start + (e + 1)) power')
       powers-at k some h (yes eq) =
-          subst (λ (j : ℕ). Stands b a j (start + j) (set upper (start + (e + 1)) raised') (set powers (start + (e + 1)) power')) (sym eq)
+          subst (λ (j : ℕ). PowerAt b a j (start + j) (set upper (start + (e + 1)) raised') (set powers (start + (e + 1)) power')) (sym eq)
           (record {
             in-upper = omega (arith, length-set upper (start + (e + 1)) raised', f .upper-long);
             in-powers = omega (arith, length-set powers (start + (e + 1)) power', f .powers-long);

@@ -10,15 +10,7 @@ use lib.ListN.{length, getD, List·getD-eq-default}
 use lib.Signed.{nonNeg}
 use Rattle.algebra.specs.Margin.{unsigned}
 use Rattle.router.specs.Readings.{beforeNegative}
-
--- no tolerance before place v is negative
-abbrev pub NoneBefore : List ℤ → ℕ → Type 0
-NoneBefore ts v = (i : ℕ) → i < v → nonNeg (getD ts i (pos 0)) ≡ true
-
--- the one at place v is negative, and none before it
-pub record FirstNegative (ts : List ℤ) (v : ℕ) : Type 0 where
-  pub negative-there : nonNeg (getD ts v (pos 0)) ≡ false
-  pub none-before : NoneBefore ts v
+use Rattle.router.specs.Promised.{NoneBefore, FirstNegative}
 
 pub at-most : (ts : List ℤ) → beforeNegative ts ≤ length ts
 unfolding beforeNegative

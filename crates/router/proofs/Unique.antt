@@ -3,7 +3,8 @@ use mathlib.Core.Path.{ap}
 use mathlib.Core.List.{List}
 use Prim.Native.Nat.{ℕ}
 use denote.Ref.{now}
-use Rattle.answers.proofs.Outcomes.{OneLent, same}
+use Rattle.answers.proofs.Outcomes.{same}
+use Rattle.answers.specs.Promised.{OneLent}
 use Rattle.answers.proofs.Unique.{outcome-one}
 use Rattle.router.proofs.estimate.Reads as estimate
 use Rattle.router.proofs.reeveboom_estimate.Reads as reeveboom-estimate

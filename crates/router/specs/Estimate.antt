@@ -34,6 +34,7 @@ judgeTerms s readings tolerances = andThen (judgeReadings readings tolerances) (
 unfoldable pub judgeEstimate : List ℕ → List ℕ → List ℕ → Judged Estimate
 judgeEstimate bytes readings tolerances = andThen (judged SUM (readWhole variables bytes)) (λ s. judgeTerms s readings tolerances)
 
+-- 16
 abbrev pub answerBytes : ℕ
 answerBytes = numberBytes + numberBytes
 
@@ -47,13 +48,9 @@ answerInto (good e) area = outcome (done answerBytes) (written (answerOf (e .est
 answerInto (fails refusal place) area = outcome (refused refusal place) area
 
 unfoldable pub estimate : List ℕ → List ℕ → List ℕ → List ℕ → Outcome (List ℕ)
-estimate bytes readings tolerances area =
-    check (leb answerBytes (length area)) ROOM 0 area
-    (answerInto (judgeEstimate bytes readings tolerances) area)
-
--- a C host gets refusal × 65,536 + place
-abbrev pub hostUnit : ℕ
-hostUnit = 65536
+estimate bytes readings tolerances answer =
+    check (leb answerBytes (length answer)) ROOM 0 answer
+    (answerInto (judgeEstimate bytes readings tolerances) answer)
 
 -- ---- An answer, read: the first eight bytes, and the next eight.
 

@@ -11,7 +11,7 @@ use Rattle.answers.specs.Refusals.{READING}
 use Rattle.answers.specs.Judge.{Judged, Judged.good, holding}
 use Rattle.router.specs.Bytes.{signedNumber, signedBytes}
 
--- two bytes for each of n variables
+-- two bytes for each of n variables: 16 for eight
 abbrev pub readingBytes : ℕ → ℕ
 readingBytes n = 2 * n
 

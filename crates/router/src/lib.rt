@@ -13,9 +13,9 @@ ghost use Rattle.algebra.specs.Limits.{variables, largestWeight};
 ghost use Rattle.algebra.specs.Word.{terms};
 ghost use Rattle.answers.specs.Answers.{told, outcome};
 ghost use Rattle.answers.specs.Areas.{written};
-ghost use Rattle.answers.specs.Host.{hosted};
+ghost use Rattle.answers.specs.Host.{hosted, narrowUnit};
 ghost use Rattle.router.specs.Readings.{beforeNegative, measured};
-ghost use Rattle.router.specs.Estimate.{judgeRange, judgeTerms, answerBytes, answerOf, answerInto, estimate, hostUnit};
+ghost use Rattle.router.specs.Estimate.{judgeRange, judgeTerms, answerBytes, answerOf, answerInto, estimate};
 ghost use Rattle.router.specs.Inside.Found.{foundOf};
 
 mod bytes;
@@ -156,7 +156,7 @@ pub extern "C" fn reeveboom_estimate(
     tolerances: &[u8],
     answer: &mut [u8],
 ) -> u64
-    ensures { λ r. ⌜ (r, now (answer .exit)) ≡ hosted hostUnit (estimate (now (sum .entry)) (now (readings .entry)) (now (tolerances .entry)) (now (answer .entry))) ⌝ }
+    ensures { λ r. ⌜ (r, now (answer .exit)) ≡ hosted narrowUnit (estimate (now (sum .entry)) (now (readings .entry)) (now (tolerances .entry)) (now (answer .entry))) ⌝ }
 {
     estimate(sum, readings, tolerances, answer).for_host(HOST_UNIT)
 }

@@ -92,7 +92,7 @@ module _ (spread : ℕ) (s : Sum) (ws : List ℕ) (cs : List ℤ) where
 
 module _ (spread : ℕ) (s : Sum) (ws₀ : List ℕ) (cs₀ : List ℤ) (ws : List ℕ) (cs : List ℤ) where
   -- the sum was formed, and has n terms
-  pub record Given (n : ℕ) : Type 0 where
+  pub record Known (n : ℕ) : Type 0 where
     pub few : spread ≤ mostTerms
     pub many : length s ≡ n
     pub words-are : ws ≡ written (wordsOf s) ws₀
@@ -106,7 +106,7 @@ module _ (spread : ℕ) (s : Sum) (ws₀ : List ℕ) (cs₀ : List ℤ) (ws : Li
   number (formed t) = refl
   number over = refl
 
-  pub given : (r : declared.Formed) {n : ℕ} → r ≡ Terms n → answer (formedOf r) → Given n
+  pub given : (r : declared.Formed) {n : ℕ} → r ≡ Terms n → answer (formedOf r) → Known n
   unfolding formedInto
   given r is e =
       let told = number-given spread s (ap formedOf (sym is) ∙ ap (λ x. x .0) e ∙ number (within spread s)) in

@@ -16,10 +16,9 @@ use Rattle.algebra.specs.Sum.{Term, term, Sum, isZero, weight}
 use Rattle.algebra.specs.Collect.{gather, dropZeros, collect, spread}
 use Rattle.algebra.specs.Arithmetic.{row, pairs, _⊗_, productSpread}
 use Rattle.algebra.specs.Word.{word, exponents, terms, Valid}
-use Rattle.algebra.specs.Held.{wordFor, wordsOf, coefficientsOf}
+use Rattle.algebra.specs.Held.{wordsOf, coefficientsOf}
 use Rattle.algebra.proofs.Patterns.Laws.{times-length}
 use Rattle.algebra.proofs.Patterns.Word.{exponents-length}
-use Rattle.algebra.proofs.Sums.Held.{word-for}
 use Rattle.algebra.proofs.Sums.Ordered.{gather-fixed}
 use Rattle.algebra.proofs.Sums.Occurs.{spread-gather}
 use Rattle.sums.specs.Asked.{Factors}
@@ -59,8 +58,8 @@ module _ {w : ℕ} {c : ℤ} {tp : List ℕ} {tc : List ℤ} (g : HasTerm w c tp
 
     word-is : getD (wordsOf (rowOf w c tp tc)) k 0 ≡ word next
     word-is =
-        map-at (λ (t : Term). wordFor (t .pattern)) (rowOf w c tp tc) k none 0 inside ∙ ap (λ (t : Term). wordFor (t .pattern)) next-is
-        ∙ word-for next (times-length variables (exponents w) (exponents (getD tp k 0)) (exponents-length w) (exponents-length (getD tp k 0)))
+        map-at (λ (t : Term). word (t .pattern)) (rowOf w c tp tc) k none 0 inside ∙ ap (λ (t : Term). word (t .pattern)) next-is
+       
 
     pub value-fits : SFits w64 (c *ℤ getD tc k (pos 0))
     value-fits = product-fits (g .factor) k h c (g .light)

@@ -8,9 +8,9 @@ use lib.ListN.{length, getD, take, drop, length-take, length-drop, length-map, d
 use lib.Seq.{drop-at}
 use borrow.Rule.Slice.PartMut.{midOf, putMid}
 use Rattle.algebra.specs.Sum.{Term, Sum}
-use Rattle.algebra.specs.Word.{EachValid}
+use Rattle.algebra.specs.Word.{word, EachValid}
 use Rattle.algebra.specs.Inside.Rank.{rankOf, wordAt, wordsAt}
-use Rattle.algebra.specs.Held.{wordFor, wordsOf, coefficientsOf}
+use Rattle.algebra.specs.Held.{wordsOf, coefficientsOf}
 use Rattle.algebra.proofs.Patterns.Rank.{words-again}
 use Rattle.answers.specs.Areas.{written, cleared}
 use Rattle.answers.proofs.Writes.{written-front}
@@ -57,7 +57,7 @@ numberOf over = 0
 pub number-inside : (f : Formed Sum) {answer : Formed ℕ} (ks : List ℕ) {cs : List ℤ} {all : ℕ} → Added f answer (wordsAt ks) cs → all ≡ numberOf answer → (all ≤ length ks) × (all ≤ length cs)
 number-inside (formed s) ks {cs} {all} a is =
     let many : all ≡ length s = is ∙ ap numberOf (a .number-is) in (
-      omega (arith, length-take (length s) (wordsAt ks), length-map ks wordAt, ap length (a .words-are s refl), length-map s (λ (t : Term). wordFor (t .pattern))),
+      omega (arith, length-take (length s) (wordsAt ks), length-map ks wordAt, ap length (a .words-are s refl), length-map s (λ (t : Term). word (t .pattern))),
       omega (arith, length-take (length s) cs, ap length (a .coefficients-are s refl), length-map s (λ (t : Term). t .coefficient)),
     )
 number-inside over ks {all = all} a is = let none : all ≡ 0 = is ∙ ap numberOf (a .number-is) in (omega arith, omega arith)

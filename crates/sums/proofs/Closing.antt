@@ -8,7 +8,7 @@ use lib.IntN.{ℤ}
 use lib.ListN.{length, getD, take, drop, set, length-set, length-drop, length-append, length-map}
 use lib.Seq.{length-take-le, take-add, take-suc, take-suc-set, drop-set-lt, getD-drop}
 use Rattle.algebra.specs.Sum.{Term, Sum}
-use Rattle.algebra.specs.Held.{wordFor}
+use Rattle.algebra.specs.Word.{word}
 use Rattle.sums.specs.Rows.{closed, Gapped, Stands}
 use Rattle.sums.proofs.Parts.{drop-further}
 
@@ -88,7 +88,7 @@ gap-closed {s} {ws} {from = from} {to} {end} g room is words coefficients =
     record {
       number-is = omega (
         arith,
-        length-map s (λ (t : Term). wordFor (t .pattern)),
+        length-map s (λ (t : Term). word (t .pattern)),
         ap length (g .words-are),
         length-append (take from ws) (take (end - to) (drop to ws)),
         length-take-le from ws (omega (arith, g .some, g .inside)),

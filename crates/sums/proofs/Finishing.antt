@@ -12,7 +12,6 @@ use Rattle.algebra.specs.Sum.{Term, term, Sum, isZero}
 use Rattle.algebra.specs.Collect.{keep, dropZeros}
 use Rattle.algebra.specs.Word.{exponents, terms}
 use Rattle.algebra.proofs.Patterns.Word.{exponents-length}
-use Rattle.algebra.proofs.Sums.Held.{word-for}
 use Rattle.sums.specs.Formed.{Formed.formed, formedInto}
 use Rattle.sums.specs.Held.{Held}
 use Rattle.sums.proofs.Holding.{each-valid, terms-many, terms-next}
@@ -83,7 +82,7 @@ module _ {ws : List ℕ} {cs : List ℤ} {ws₀ : List ℕ} {cs₀ : List ℤ} {
         let t = term (getD cs k (pos 0)) (exponents (getD ws k 0)) in
         let kept = dropZeros (take k (terms ws cs)) in
         let more = ap dropZeros (terms-next (f .held) k h) ∙ drop-other (take k (terms ws cs)) t other in
-        let word = sym (word-for (exponents (getD ws k 0)) (exponents-length (getD ws k 0)) ∙ each-valid (f .held) k h .is) in
+        let word = sym (each-valid (f .held) k h .is) in
         record {
           stored = rw more
               (stored-next (f .stored) t count (getD ws k 0) (getD cs k (pos 0)) (f .many)

@@ -8,8 +8,8 @@ use lib.ListN.{length, take, length-take, length-map}
 use lib.Seq.{length-take-le, take-all}
 use Rattle.algebra.specs.Limits.{mostTerms}
 use Rattle.algebra.specs.Sum.{Term, Sum}
-use Rattle.algebra.specs.Word.{terms}
-use Rattle.algebra.specs.Held.{wordFor, wordsOf, coefficientsOf, firstTerms}
+use Rattle.algebra.specs.Word.{word, terms}
+use Rattle.algebra.specs.Held.{wordsOf, coefficientsOf, firstTerms}
 use Rattle.answers.specs.Areas.{written}
 use Rattle.answers.proofs.Writes.{written-front}
 use Rattle.sums.specs.Held.{Held}
@@ -26,7 +26,7 @@ module _ {s : Sum} {n : ℕ} {ws : List ℕ} {cs : List ℤ} (p : Placed s n ws 
 
   pub placed-inside : (n ≤ length ws) × (n ≤ length cs)
   placed-inside = (
-    omega (arith, length-take n ws, ap length (p .stands .words-are), length-map s (λ (t : Term). wordFor (t .pattern)), p .stands .number-is),
+    omega (arith, length-take n ws, ap length (p .stands .words-are), length-map s (λ (t : Term). word (t .pattern)), p .stands .number-is),
     omega (arith, length-take n cs, ap length (p .stands .coefficients-are), length-map s (λ (t : Term). t .coefficient), p .stands .number-is),
   )
 

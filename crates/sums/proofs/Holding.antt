@@ -13,11 +13,11 @@ use Rattle.algebra.specs.Limits.{variables, largestDegree, mostTerms}
 use Rattle.algebra.specs.Pattern.{Pattern, degree}
 use Rattle.algebra.specs.Sum.{Term, term, Sum, inOrder, degreeOf, weight}
 use Rattle.algebra.specs.Word.{word, exponents, terms, EachValid}
-use Rattle.algebra.specs.Held.{wordFor, wordsOf, coefficientsOf}
+use Rattle.algebra.specs.Held.{wordsOf, coefficientsOf}
 use Rattle.algebra.specs.Accepted.{Accepted}
 use Rattle.algebra.proofs.Patterns.Word.{exponents-length}
 use Rattle.algebra.proofs.Patterns.Held.{held-length, held-at}
-use Rattle.algebra.proofs.Sums.Held.{word-for, terms-long, terms-again}
+use Rattle.algebra.proofs.Sums.Held.{terms-long, terms-again}
 use Rattle.algebra.proofs.Sums.Every.{Every, Long, UpTo, degree-every}
 use Rattle.algebra.proofs.Sums.Ordered.{parts}
 use Rattle.sums.specs.Held.{Held, HeldSum}
@@ -93,9 +93,8 @@ module _ {ws : List ℕ} {cs : List ℤ} (held : Held ws cs) where
     word-is =
         sym
         (ap (λ (l : List ℕ). getD l k 0) (held .words-are)
-        ∙ map-at (λ (t : Term). wordFor (t .pattern)) (terms ws cs) k at-place 0 (omega (arith, terms-many))
-        ∙ ap (λ (t : Term). wordFor (t .pattern)) (term-at at-place)
-        ∙ word-for (exponents (getD ws k 0)) (exponents-length (getD ws k 0)))
+        ∙ map-at (λ (t : Term). word (t .pattern)) (terms ws cs) k at-place 0 (omega (arith, terms-many))
+        ∙ ap (λ (t : Term). word (t .pattern)) (term-at at-place))
 
   pub each-valid : EachValid ws
   each-valid k h = record { is = word-is k h; low = omega (arith, degree-at k h, held .low) }
@@ -119,7 +118,7 @@ module _ {s : Sum} (h : Holdable s) where
     coefficients-are = ap coefficientsOf (sym spells);
     strict = rw spells (h .strict);
     low = rw spells (h .low);
-    few = omega (arith, h .few, length-map s (λ (t : Term). wordFor (t .pattern)));
+    few = omega (arith, h .few, length-map s (λ (t : Term). word (t .pattern)));
   }
 
 -- an accepted sum is

@@ -10,7 +10,7 @@ use lib.ListN.{length, getD, take, drop, drop-of-length-le}
 use lib.Seq.{take-all, take-suc, drop-cons, append-snoc}
 use Rattle.algebra.specs.Pattern.{Pattern, order}
 use Rattle.algebra.specs.Sum.{Term, term, Sum, ahead, inOrder}
-use Rattle.algebra.specs.Collect.{place, insert, gather}
+use Rattle.algebra.specs.Collect.{settle, insert, gather}
 use Rattle.algebra.proofs.Patterns.Order.{order-turn, order-trans, order-eq}
 use Rattle.algebra.proofs.Numbers.Compare.{turn}
 use Rattle.algebra.proofs.Sums.Every.{Every, every-map, append-every}
@@ -41,7 +41,7 @@ order-rest [] t k = k
 order-rest (v ∷ s) t k = order-rest s t (order-tail v (s ++ t) k)
 
 insert-past : (u : Term) (s t : Sum) → Every (Before (u .pattern)) s → insert u (s ++ t) ≡ s ++ insert u t
-unfolding insert place
+unfolding insert settle
 insert-past u [] t h = refl
 insert-past u (v ∷ s) t h = rw (order-turn (v .pattern) (u .pattern) ∙ ap turn (h .0), insert-past u s t (h .1))
 
@@ -50,7 +50,7 @@ unfolding gather
 insert-front u s k h = ap (insert u) (sym (gather-fixed s k)) ∙ gather-fixed (u ∷ s) (order-cons u s h k)
 
 pub insert-same : (u v : Term) (s : Sum) → order (u .pattern) (v .pattern) ≡ Ordering·eq → insert u (v ∷ s) ≡ term (u .coefficient +ℤ v .coefficient) (u .pattern) ∷ s
-unfolding insert place
+unfolding insert settle
 insert-same u v s e = rw e (rw (order-eq (u .pattern) (v .pattern) e) refl)
 
 -- ---- What the loop keeps.

@@ -13,11 +13,10 @@ use Rattle.algebra.specs.Pattern.{Pattern, times, degree}
 use Rattle.algebra.specs.Sum.{Term, term, Sum, weight}
 use Rattle.algebra.specs.Arithmetic.{row}
 use Rattle.algebra.specs.Word.{word, exponents, terms, Valid, EachValid}
-use Rattle.algebra.specs.Held.{wordFor, wordsOf, coefficientsOf, firstTerms}
+use Rattle.algebra.specs.Held.{wordsOf, coefficientsOf, firstTerms}
 use Rattle.algebra.proofs.Numbers.Absolute.{abs-add}
 use Rattle.algebra.proofs.Patterns.Laws.{times-length, degree-times}
 use Rattle.algebra.proofs.Patterns.Word.{exponents-length, exponents-word, product-valid}
-use Rattle.algebra.proofs.Sums.Held.{word-for}
 use Rattle.answers.proofs.Signed.{fits-abs}
 use Rattle.sums.specs.Held.{Held}
 use Rattle.sums.specs.Rows.{CanMerge, joined, closed, Gapped}
@@ -115,7 +114,7 @@ module _ {ws₀ : List ℕ} {cs₀ : List ℤ} {n w : ℕ} {c : ℤ} {tp : List 
       let before : i ≤ k = omega (arith, v .room) in
       let held = v .can .running in
       record {
-        words-are = all-stands (λ (t : Term). wordFor (t .pattern)) s (v .merged) n i (v .words) before (held .words-are) (v .inside) all;
+        words-are = all-stands (λ (t : Term). word (t .pattern)) s (v .merged) n i (v .words) before (held .words-are) (v .inside) all;
         coefficients-are = all-stands (λ (t : Term). t .coefficient) s (v .merged) n i (v .coefficients) before (held .coefficients-are) (v .inside) all;
         some = before;
         inside = omega (arith, v .words .place);
@@ -155,8 +154,8 @@ module _ {ws₀ : List ℕ} {cs₀ : List ℤ} {n w : ℕ} {c : ℤ} {tp : List 
       pub next-valid : Valid x
       next-valid = subst Valid (sym is) (product-valid w (getD tp (j - 1) 0) (v .can .valid) factor-valid factor-low)
 
-      next-word : x ≡ wordFor (getD (rowOf c w tp tc) (j - 1) none .pattern)
-      next-word = is ∙ sym (ap (λ (t : Term). wordFor (t .pattern)) next-is ∙ word-for next next-long)
+      next-word : x ≡ word (getD (rowOf c w tp tc) (j - 1) none .pattern)
+      next-word = is ∙ sym (ap (λ (t : Term). word (t .pattern)) next-is)
 
       -- the patterns that the code compares are those of the terms
       abbrev last : Pattern
@@ -168,7 +167,7 @@ module _ {ws₀ : List ℕ} {cs₀ : List ℤ} {n w : ℕ} {c : ℤ} {tp : List 
           ∙ ap (lastStands i last) (ap (λ (t : Term). t .pattern) next-is ∙ sym spelled)
 
       -- a term more is merged, and written in both areas
-      put : {t : Term} {i' j' : ℕ} → Merging (firstTerms n ws₀ cs₀) (rowOf c w tp tc) i' j' (t ∷ v .merged) → i' + j' < i + j → {y : ℕ} → y ≡ wordFor (t .pattern) → {z : ℤ} → z ≡ t .coefficient
+      put : {t : Term} {i' j' : ℕ} → Merging (firstTerms n ws₀ cs₀) (rowOf c w tp tc) i' j' (t ∷ v .merged) → i' + j' < i + j → {y : ℕ} → y ≡ word (t .pattern) → {z : ℤ} → z ≡ t .coefficient
           → Moving ws₀ cs₀ n w c tp tc (set ws (k - 1) y) (set cs (k - 1) z) i' j' (k - 1)
       put m fewer word-is coefficient-is =
           let some : 0 < k = omega (arith, v .room) in
@@ -214,4 +213,4 @@ module _ {ws₀ : List ℕ} {cs₀ : List ℤ} {n w : ℕ} {c : ℤ} {tp : List 
             → Moving ws₀ cs₀ n w c tp tc (set ws (k - 1) (getD ws (i - 1) 0)) (set cs (k - 1) z) (i - 1) j (k - 1)
         passed e z-is =
             put (moves (v .merging) more some (there-is i _ _ (stand ∙ e) (λ h. h) .1)) (omega arith)
-            (sym (ap (λ (t : Term). wordFor (t .pattern)) last-is ∙ word-for last (exponents-length (getD ws (i - 1) 0)) ∙ last-valid .is)) (z-is ∙ coefficient-of last-is)
+            (sym (ap (λ (t : Term). word (t .pattern)) last-is ∙ last-valid .is)) (z-is ∙ coefficient-of last-is)

@@ -59,12 +59,12 @@ module _ (n rows m places : ℕ) where
 
 -- ---- The rows of the first k terms of s, and the running sum r as it was.
 
-record Addable (s t r : Sum) : Type 0 where
+pub record Addable (s t r : Sum) : Type 0 where
   pub factors : Factors s t
   pub running : Holdable r
   pub light : weight s * weight t + weight r ≤ largestWeight
 
-abbrev upto : Sum → Sum → Sum → ℕ → List Term
+abbrev pub upto : Sum → Sum → Sum → ℕ → List Term
 upto s t r k = pairs (take k s) t ++ r
 
 -- a list goes behind another one, before what follows
@@ -126,7 +126,7 @@ module _ {s t r : Sum} (a : Addable s t r) where
           a .light,
         )
 
-    row-joins : gather (row u t ++ gather (upto s t r k)) ≡ gather (upto s t r (k + 1))
+    pub row-joins : gather (row u t ++ gather (upto s t r k)) ≡ gather (upto s t r (k + 1))
     row-joins = gather-rest (row u t) (upto s t r k) ∙ goes-behind (row u t) (pairs (take k s) t) r ∙ ap gather (sym taken)
 
 -- ---- The loop.

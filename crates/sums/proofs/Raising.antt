@@ -11,7 +11,7 @@ use types.Run.{OneOf}
 use denote.Enum.Declared.{tagOf}
 use Rattle.algebra.specs.Limits.{variables, largestDegree, mostTerms, largestWeight}
 use Rattle.algebra.specs.Sum.{Sum, degreeOf, weight}
-use Rattle.algebra.specs.Arithmetic.{integer, unit, _⊗_, productSpread, power, powerSpread}
+use Rattle.algebra.specs.Arithmetic.{integer, oneSum, _⊗_, productSpread, power, powerSpread}
 use Rattle.algebra.specs.Word.{terms}
 use Rattle.algebra.specs.Held.{firstTerms}
 use Rattle.algebra.proofs.Sums.Results.{unit-integer, power-degree, power-weight}
@@ -61,7 +61,7 @@ heavier (suc w) m k e h more light =
 
 pub power-none : (s : Sum) (e : ℕ) → e ≡ 0 → formed (integer variables (pos 1)) ≡ powerOf s e
 unfolding powerOf power powerSpread
-power-none s e none = rw none (ap formed (unit-integer variables) ∙ sym (within-yes 0 (unit variables) (omega arith)))
+power-none s e none = rw none (ap formed (unit-integer variables) ∙ sym (within-yes 0 (oneSum variables) (omega arith)))
 
 pub power-two : (s : Sum) (e : ℕ) → e ≡ 2 → productOf s s ≡ powerOf s e
 unfolding powerOf productOf power powerSpread

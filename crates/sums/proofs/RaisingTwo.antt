@@ -11,10 +11,10 @@ use lib.ListN.{length, getD, take, set, length-map}
 use Rattle.algebra.specs.Limits.{variables, mostTerms, largestWeight}
 use Rattle.algebra.specs.Sum.{Term, term, Sum, ordered, weight}
 use Rattle.algebra.specs.Arithmetic.{power, powerSpread}
-use Rattle.algebra.specs.Word.{exponents, termsBy, terms}
-use Rattle.algebra.specs.Held.{wordFor, wordsOf, coefficientsOf}
+use Rattle.algebra.specs.Word.{word, exponents, termsBy, terms}
+use Rattle.algebra.specs.Held.{wordsOf, coefficientsOf}
 use Rattle.algebra.proofs.Patterns.Word.{exponents-length}
-use Rattle.algebra.proofs.Sums.Held.{word-for, terms-long}
+use Rattle.algebra.proofs.Sums.Held.{terms-long}
 use Rattle.algebra.proofs.Sums.Ordered.{whole}
 use Rattle.algebra.proofs.Sums.Results.{power-weight}
 use Rattle.answers.specs.Areas.{written}
@@ -142,8 +142,8 @@ module _ {sp : List ℕ} {sc : List ℤ} {e : ℕ} (base : Base sp sc e) (two : 
 
   -- ---- The words.
 
-  word-is : (i : ℕ) → i < length sp → wordFor (exponents (getD sp i 0)) ≡ getD sp i 0
-  word-is i h = word-for (exponents (getD sp i 0)) (exponents-length (getD sp i 0)) ∙ each-valid (base .held) i h .is
+  word-is : (i : ℕ) → i < length sp → word (exponents (getD sp i 0)) ≡ getD sp i 0
+  word-is i h = each-valid (base .held) i h .is
 
   pub answered : {cs₀ cs : List ℤ} {k : ℕ} → Raised cs₀ cs k → e ≤ k → (ds : List ℕ) (area : List ℤ) {ps : List ℕ} → ps ≡ written (mixed (getD sp 0 0) (getD sp 1 0) e 0) ds
       → cs₀ ≡ written sc area → (formed (e + 1), ps, cs) ≡ formedInto (powerOf s e) ds area

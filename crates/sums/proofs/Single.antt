@@ -14,7 +14,6 @@ use Rattle.algebra.specs.Arithmetic.{integer, variable}
 use Rattle.algebra.specs.Word.{word}
 use Rattle.algebra.proofs.Patterns.Laws.{empty-length, alone-length}
 use Rattle.algebra.proofs.Patterns.Word.{word-empty}
-use Rattle.algebra.proofs.Sums.Held.{word-for}
 use Rattle.sums.specs.Formed.{Formed.formed, formedInto}
 use Rattle.sums.proofs.Storing.{stored-none, stored-next, stored-into}
 
@@ -31,7 +30,7 @@ module _ (ws : List ℕ) (cs : List ℤ) where
   pub one-term : mostTerms ≤ length ws → mostTerms ≤ length cs → (t : Term) → length (t .pattern) ≡ variables → (w : ℕ) (c : ℤ) → w ≡ word (t .pattern) → c ≡ t .coefficient
       → (formed 1, set ws 0 w, set cs 0 c) ≡ formedInto (formed (t ∷ [])) ws cs
   one-term words-room coefficients-room t long w c word-is coefficient-is =
-      stored-into 1 (stored-next (stored-none ws cs) t 0 w c refl (omega arith) (omega arith) (word-is ∙ sym (word-for (t .pattern) long)) coefficient-is) refl
+      stored-into 1 (stored-next (stored-none ws cs) t 0 w c refl (omega arith) (omega arith) (word-is) coefficient-is) refl
 
   pub zero-formed : (c : ℤ) → isZero c ≡ true → (formed 0, ws, cs) ≡ formedInto (formed (integer variables c)) ws cs
   zero-formed c zero = rw (integer-none variables c zero) (stored-into 0 (stored-none ws cs) refl)

@@ -6,7 +6,8 @@ use native.Mathlib.Omega.{arith}
 use lib.IntN.{ℤ}
 use lib.ListN.{length, set, length-set, length-map}
 use Rattle.algebra.specs.Sum.{Term, Sum}
-use Rattle.algebra.specs.Held.{wordFor, wordsOf, coefficientsOf}
+use Rattle.algebra.specs.Held.{wordsOf, coefficientsOf}
+use Rattle.algebra.specs.Word.{word}
 use Rattle.answers.specs.Areas.{written}
 use Rattle.answers.proofs.Writes.{written-next}
 use Rattle.sums.specs.Formed.{Formed.formed, formedInto}
@@ -31,10 +32,10 @@ next {A = A} f s t area₀ area k v are many room is =
     ∙ ap (λ (l : List A). written l area₀) (sym (map-append f s (t ∷ [])))
 
 pub stored-next : {ws₀ : List ℕ} {cs₀ : List ℤ} {s : Sum} {ws : List ℕ} {cs : List ℤ} → Stored ws₀ cs₀ s ws cs
-    → (t : Term) (k w : ℕ) (c : ℤ) → length s ≡ k → k < length ws₀ → k < length cs₀ → w ≡ wordFor (t .pattern) → c ≡ t .coefficient
+    → (t : Term) (k w : ℕ) (c : ℤ) → length s ≡ k → k < length ws₀ → k < length cs₀ → w ≡ word (t .pattern) → c ≡ t .coefficient
     → Stored ws₀ cs₀ (s ++ (t ∷ [])) (set ws k w) (set cs k c)
 stored-next {ws₀} {cs₀} {s} {ws} {cs} d t k w c many words-room coefficients-room word coefficient = record {
-  words-are = next (λ (u : Term). wordFor (u .pattern)) s t ws₀ ws k w (d .words-are) many words-room word;
+  words-are = next (λ (u : Term). word (u .pattern)) s t ws₀ ws k w (d .words-are) many words-room word;
   coefficients-are = next (λ (u : Term). u .coefficient) s t cs₀ cs k c (d .coefficients-are) many coefficients-room coefficient;
   same-words = length-set ws k w ∙ d .same-words;
   same-coefficients = length-set cs k c ∙ d .same-coefficients;

@@ -15,7 +15,7 @@ use Rattle.algebra.specs.Sum.{Term, term, Sum, isZero, ahead, inOrder, noZero, 
 use Rattle.algebra.specs.Collect.{occurs}
 use Rattle.algebra.specs.Arithmetic.{timesTerm, row, pairs, _⊗_, productSpread, power, powerSpread}
 use Rattle.algebra.specs.Word.{word, fieldSize}
-use Rattle.algebra.specs.Held.{wordFor, wordsOf, coefficientsOf}
+use Rattle.algebra.specs.Held.{wordsOf, coefficientsOf}
 use Rattle.algebra.specs.Value.{total}
 use Rattle.algebra.proofs.Numbers.Absolute.{abs-mul}
 use Rattle.algebra.proofs.Numbers.Whole.{*ℤ-assoc, +ℤ-*ℤ, one-*ℤ, +ℤ-left-comm}
@@ -24,7 +24,6 @@ use Rattle.algebra.proofs.Patterns.Laws.{times-comm, times-assoc, times-length}
 use Rattle.algebra.proofs.Patterns.Fields.{word-times}
 use Rattle.algebra.proofs.Patterns.Order.{order-times}
 use Rattle.algebra.proofs.Sums.Every.{Every, Long}
-use Rattle.algebra.proofs.Sums.Held.{word-for}
 use Rattle.algebra.proofs.Sums.Total.{Additive, total-plus, total-ext, pairs-total}
 use Rattle.algebra.proofs.Sums.Equal.{collect-equal}
 use Rattle.algebra.proofs.Sums.Occurs.{occurs-cons, spread-gather}
@@ -326,13 +325,11 @@ module _ (n : ℕ) (x y : Term) where
 
     module _ (all : n ≡ variables) where
       abbrev wordIn : Term → ℕ
-      wordIn t = wordFor (t .pattern)
+      wordIn t = word (t .pattern)
 
       product-word : (g : Counted) (u : Term) → Good g → length (u .pattern) ≡ n → wordIn (timesTerm (g .1) u) ≡ wordIn (g .1) + wordIn u
       unfolding word
-      product-word g u G h =
-          word-for (times (g .1 .pattern) (u .pattern)) (times-length n (g .1 .pattern) (u .pattern) (G .long) h ∙ all) ∙ word-times fieldSize (g .1 .pattern) (u .pattern) (G .long ∙ sym h)
-          ∙ sym (ap₂ _+_ (word-for (g .1 .pattern) (G .long ∙ all)) (word-for (u .pattern) (h ∙ all)))
+      product-word g u G h = word-times fieldSize (g .1 .pattern) (u .pattern) (G .long ∙ sym h)
 
       lead-word : (k : ℕ) → wordIn (lead k .1) ≡ suc k * wordIn x
       unfolding lead
@@ -377,7 +374,7 @@ module _ (x y : Term) (good : T (ordered variables (x ∷ y ∷ []))) where
   two-coefficients zero h = absurd (omega arith)
   two-coefficients (suc k) h = rw (add-one (suc k)) (coefficients-next variables x y some-x (P .long .0) some-y (P .long .1 .0) before-y k)
 
-  pub two-words : (k : ℕ) → 1 ≤ k → wordsOf (power variables (x ∷ y ∷ []) k) ≡ mixed (wordFor (x .pattern)) (wordFor (y .pattern)) k 0
+  pub two-words : (k : ℕ) → 1 ≤ k → wordsOf (power variables (x ∷ y ∷ []) k) ≡ mixed (word (x .pattern)) (word (y .pattern)) k 0
   two-words zero h = absurd (omega arith)
   two-words (suc k) h = words-are variables x y some-x (P .long .0) some-y (P .long .1 .0) before-y refl k
 

@@ -4,7 +4,8 @@ use mathlib.Core.List.{List}
 use Prim.Native.Nat.{ℕ}
 use lib.IntN.{ℤ}
 use denote.Ref.{now}
-use Rattle.answers.proofs.Outcomes.{OneLent, same}
+use Rattle.answers.proofs.Outcomes.{same}
+use Rattle.answers.specs.Promised.{OneLent}
 use Rattle.sums.specs.Formed.{Formed, Formed.formed, Formed.over, formedOf}
 use Rattle.sums.specs.declared.Formed as declared
 use Rattle.sums.specs.declared.Formed.the-variants.{Terms, Over}
@@ -30,33 +31,33 @@ answer-of Over = refl
 pub formed-one : (r r' : declared.Formed) → formedOf r ≡ formedOf r' → r ≡ r'
 formed-one r r' h = sym (answer-of r) ∙ ap answerOf h ∙ answer-of r'
 
-abbrev pub Areas : Type 0
-Areas = List ℕ × List ℤ
+abbrev pub TwoAreas : Type 0
+TwoAreas = List ℕ × List ℤ
 
 -- two equal outcomes have the same answer and the same areas
 pub told-one : (r r' : declared.Formed) {ws ws' : List ℕ} {cs cs' : List ℤ} → _≡_ {A = Formed ℕ × List ℕ × List ℤ} (formedOf r, ws, cs) (formedOf r', ws', cs')
-    → (r ≡ r') × (_≡_ {A = Areas} (ws, cs) (ws', cs'))
+    → (r ≡ r') × (_≡_ {A = TwoAreas} (ws, cs) (ws', cs'))
 told-one r r' h = (formed-one r r' (ap (λ x. x .0) h), ap (λ x. (x .1, x .2)) h)
 
 -- ---- The functions.
 
-pub integer-one : OneLent integer.Learnt {L = Areas} (λ k e. (now (e .1 .0), now (e .1 .1 .0)))
+pub integer-one : OneLent integer.Learnt {L = TwoAreas} (λ k e. (now (e .1 .0), now (e .1 .1 .0)))
 integer-one k a r r' e e' h h' = told-one r r' (same h h')
 
-pub variable-one : OneLent variable.Learnt {L = Areas} (λ k e. (now (e .1 .0), now (e .1 .1 .0)))
+pub variable-one : OneLent variable.Learnt {L = TwoAreas} (λ k e. (now (e .1 .0), now (e .1 .1 .0)))
 variable-one k a r r' e e' h h' = told-one r r' (same h h')
 
-pub product-one : OneLent product.Learnt {L = Areas} (λ k e. (now (e .1 .1 .1 .1 .0), now (e .1 .1 .1 .1 .1 .0)))
+pub product-one : OneLent product.Learnt {L = TwoAreas} (λ k e. (now (e .1 .1 .1 .1 .0), now (e .1 .1 .1 .1 .1 .0)))
 product-one k a r r' e e' h h' = told-one r r' (same h h')
 
-pub power-one : OneLent power.Learnt {L = Areas} (λ k e. (now (e .1 .1 .1 .0), now (e .1 .1 .1 .1 .0)))
+pub power-one : OneLent power.Learnt {L = TwoAreas} (λ k e. (now (e .1 .1 .1 .0), now (e .1 .1 .1 .1 .0)))
 power-one k a r r' e e' h h' = told-one r r' (same h h')
 
 pub rank-words-one : OneLent rank-words.Learnt {L = List ℕ} (λ k e. now (e .1 .0))
 rank-words-one k a r r' e e' h h' = (refl, same h h')
 
-pub add-product-one : OneLent add-product.Learnt {L = Areas} (λ k e. (now (e .0), now (e .1 .0)))
+pub add-product-one : OneLent add-product.Learnt {L = TwoAreas} (λ k e. (now (e .0), now (e .1 .0)))
 add-product-one k a r r' e e' h h' = told-one r r' (same h h')
 
-pub finish-one : OneLent finish.Learnt {L = Areas} (λ k e. (now (e .1 .1 .0), now (e .1 .1 .1 .0)))
+pub finish-one : OneLent finish.Learnt {L = TwoAreas} (λ k e. (now (e .1 .1 .0), now (e .1 .1 .1 .0)))
 finish-one k a r r' e e' h h' = told-one r r' (same h h')

@@ -15,7 +15,7 @@ ghost use lib.ListN.{length, getD, take};
 ghost use Rattle.algebra.specs.Pattern.{order};
 ghost use Rattle.algebra.specs.Collect.{dropZeros};
 ghost use Rattle.algebra.specs.Arithmetic.{pairs};
-ghost use Rattle.algebra.specs.Standing.{standing};
+ghost use Rattle.algebra.specs.Inside.Standing.{standing};
 ghost use Rattle.algebra.specs.Word.{exponents, terms, Valid, EachValid};
 ghost use Rattle.algebra.specs.Inside.Rank.{rankOf, wordAt, wordsAt};
 ghost use Rattle.algebra.specs.Held.{firstTerms};

@@ -58,13 +58,13 @@ module _ (text : List ℕ) (table : List ℤ) where
 
 -- ---- A tree laid out in a table of its own: the numbers of its nodes stand in front.
 
-pub record Stands (t : Tree) (nodes : ℕ) (own : List ℤ) : Type 0 where
+pub record LaidOut (t : Tree) (nodes : ℕ) (own : List ℤ) : Type 0 where
   pub many : nodes ≡ size t
   pub places : length own ≡ tablePlaces
   pub front : take (3 * nodes) own ≡ tableOf (nodesOf 0 t)
 
 pub stands : (text : List ℕ) (own own' : List ℤ) {t : Tree} {next nodes : ℕ} → length own ≡ tablePlaces → Part text 0 0 own (span t next) next nodes own'
-    → nodes ≤ mostNodes → Stands t nodes own'
+    → nodes ≤ mostNodes → LaidOut t nodes own'
 stands text own own' {t} {nodes = nodes} e w few =
     let numbers = tableOf (nodesOf 0 t) in
     let many : nodes ≡ size t = omega (arith, w .count-is) in

@@ -9,7 +9,7 @@ use lib.ListN.{length}
 use Rattle.answers.specs.Judge.{Judged, Judged.good, andThen}
 use Rattle.text.specs.Tree.{Tree}
 use Rattle.text.specs.Reader.{Span, span, byteAt}
-use Rattle.text.proofs.Words.{Stands, stands-front, stands-back, stands-first, Agree}
+use Rattle.text.proofs.Words.{WordAt, stands-front, stands-back, stands-first, Agree}
 use Rattle.text.proofs.Parts.{End}
 use Rattle.answers.proofs.Judging.{then-good}
 use Rattle.text.proofs.Ahead.{then-ahead, more-ahead}
@@ -42,8 +42,8 @@ module _ (s r : List ℕ) where
     stops c alike e = chain-stops o s c (ap (o .isJoint) (chain-at c alike) ∙ e)
 
     pub continues : (i b : ℕ) (w v : List ℕ) {y : ℕ} {t u : Tree} {whole : Judged Span} → let x = i + length w in
-        Stands r i y (w ++ (b ∷ v)) → Alike whole → o .isJoint b ≡ true → (Stands r i x w → byteAt r x ≡ b → Chain o s whole (span t x))
-        → (Stands r (x + 1) y v → Alike (o .operand (x + 1)) → o .operand (x + 1) ≡ good (span u y))
+        WordAt r i y (w ++ (b ∷ v)) → Alike whole → o .isJoint b ≡ true → (WordAt r i x w → byteAt r x ≡ b → Chain o s whole (span t x))
+        → (WordAt r (x + 1) y v → Alike (o .operand (x + 1)) → o .operand (x + 1) ≡ good (span u y))
         → Chain o s whole (span (o .join b t u) y)
     continues i b w v {t = t} a alike f before operand =
         let x : ℕ = i + length w in

@@ -16,7 +16,7 @@ use Rattle.text.specs.Grammar.{Level.sum, Is, Formula, Longest}
 use Rattle.text.specs.Signs.{isDigit}
 use Rattle.text.specs.Reader.{Span, span, byteAt, isTimes, isSign, readWhole}
 use Rattle.text.proofs.Byte.{decide}
-use Rattle.text.proofs.Words.{Stands, Agree}
+use Rattle.text.proofs.Words.{WordAt, Agree}
 use Rattle.text.proofs.Parts.{Begun, reading, End, Good}
 use Rattle.text.proofs.Sound.{reading-good}
 use Rattle.answers.proofs.Judging.{good-fails}
@@ -31,7 +31,7 @@ first s = reading sum deepest s 0
 formula-first : (s r : List ℕ) (t : Tree) → Agree (End (first s)) s r → Formula r t → first s ≡ good (span t (length r))
 unfolding isDigit isTimes isSign
 formula-first s r t agree d =
-    let whole : Stands r 0 (length r) r = record { end = omega arith; split = rw (drop-length r, append-nil) } in
+    let whole : WordAt r 0 (length r) r = record { end = omega arith; split = rw (drop-length r, append-nil) } in
     let past : byteAt r (length r) ≡ 0 = List·getD-eq-default r 0 (omega arith) in
     reads s r d whole agree (rw past (refl, refl, refl, refl))
 
@@ -61,7 +61,8 @@ module _ (s : List ℕ) where
     rest = rest;
     tree = t;
     begins = rw (begun-word d) (d .is);
-    none = none-longer p e;
+    none = λ q longer inside other u f.
+        none-longer p e (omega arith) (drop (p + 1) (take q s) ++ other) u (rw (← append-assoc, ← take-take (p + 1) q s (omega arith), take-append-drop) f);
   }
 
   -- what is said of the text
@@ -96,9 +97,7 @@ tree-one {s} {t} {u} d c = let e = read-formula s t d in let f = read-formula s 
 -- ---- There is one longest prefix.
 
 no-longer : {s : List ℕ} {p q : ℕ} → Longest s p → Longest s q → p < q → ⊥
-no-longer {s} {p} {q} a b h =
-    a .none (omega (arith, b .within)) (drop (p + 1) (take q s) ++ b .rest) (b .tree)
-    (rw (← append-assoc, ← take-take (p + 1) q s (omega arith), take-append-drop) (b .begins))
+no-longer {q = q} a b h = a .none q h (b .within) (b .rest) (b .tree) (b .begins)
 
 pub longest-one : {s : List ℕ} {p q : ℕ} → Longest s p → Longest s q → p ≡ q
 longest-one a b = omega (arith, no-longer a b, no-longer b a)

@@ -14,17 +14,18 @@ use Rattle.answers.specs.Answers.{Told.refused, outcome}
 use Rattle.nodes.specs.Node.{tableOf}
 use Rattle.formula.specs.Table.{judgeTable}
 use Rattle.formula.specs.Meaning.{formulaValue}
-use Rattle.packed.specs.Result.{Areas}
+use Rattle.packed.specs.Result.{WorkAreas}
 use Rattle.formula.specs.Simplify.{simplify}
 use Rattle.formula.proofs.Tables.{table-one}
 use Rattle.formula.proofs.Passing.{table-length, shape-judge, no-shape-judge, fault-judge}
-use Rattle.formula.proofs.Simplifying.{Simplified, Refuses, Refuses.no-room, Refuses.no-shape, Refuses.at-node, simplify-refuses}
+use Rattle.formula.proofs.Simplifying.{simplify-refuses}
+use Rattle.formula.specs.Promised.{Simplified, SimplifyRefuses, SimplifyRefuses.no-room, SimplifyRefuses.no-shape, SimplifyRefuses.at-node}
 use Rattle.text.specs.Tree.{Tree, size, nodesOf, treeValue}
 use Rattle.text.specs.Grammar.{Formula}
 use Rattle.text.proofs.Trees.{nodes-length}
 use Rattle.text.proofs.Meaning.{tree-value}
 use Rattle.text.proofs.Fitting.{TooMuch, Passable, formula-passable}
-use Rattle.text.proofs.Typing.{Typed}
+use Rattle.text.specs.Promised.{Typed}
 
 -- the table of a typed formula is what the area begins with: three numbers for each of its nodes
 pub typed-table : {text : List ℕ} {table : List ℤ} {n : ℕ} {table' : List ℤ} (d : Typed text table n table')
@@ -39,14 +40,14 @@ module _ (t : Tree) (ws : List ℕ) (cs : List ℤ) (area : List ℕ) where
   abbrev given : List ℤ
   given = tableOf (nodesOf 0 t)
 
-  pub typed-value : {n : ℕ} {areas : Areas} (d : Simplified given ws cs area n areas) (x : List ℤ) → value (d .sum) x ≡ treeValue t x
+  pub typed-value : {n : ℕ} {areas : WorkAreas} (d : Simplified given ws cs area n areas) (x : List ℤ) → value (d .sum) x ≡ treeValue t x
   typed-value d x = d .means .values x ∙ ap (λ ks. formulaValue ks x) (sym (table-one (nodesOf 0 t) (d .ks) (d .table-is))) ∙ tree-value t x
 
-  pub typed-simplify : {text : List ℕ} {refusal p : ℕ} {areas : Areas} → Formula text t → size t ≤ mostNodes
+  pub typed-simplify : {text : List ℕ} {refusal p : ℕ} {areas : WorkAreas} → Formula text t → size t ≤ mostNodes
       → simplify given ws cs area ≡ outcome (refused refusal p) areas → (refusal ≡ ROOM) ⊎ TooMuch refusal
   typed-simplify d few e = go (simplify-refuses given ws cs area e) (formula-passable d few)
     where
-      go : {refusal p : ℕ} {areas : Areas} → Refuses given ws cs area refusal p areas → Passable (judgeTable given) → (refusal ≡ ROOM) ⊎ TooMuch refusal
+      go : {refusal p : ℕ} {areas : WorkAreas} → SimplifyRefuses given ws cs area refusal p areas → Passable (judgeTable given) → (refusal ≡ ROOM) ⊎ TooMuch refusal
       go (no-room f) h = inl refl
       go (no-shape r s) h = inr (subst Passable (no-shape-judge given s) h)
       go (at-node r s f) h = inr (subst Passable (shape-judge given s ∙ fault-judge f) h)

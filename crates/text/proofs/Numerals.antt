@@ -11,14 +11,14 @@ use Rattle.text.specs.Grammar.{Numeral, Numeral.digit, Numeral.longer}
 use Rattle.text.specs.Reader.{Digits, byteAt, takes, moreDigits, digitsAt}
 use Rattle.text.proofs.Byte.{decide, digit-from, digit-to, digit-is, first-byte}
 use Rattle.text.proofs.Digits.{only-digits, Takes, takes-says, takes-is, more-takes, more-stops, more-ahead, digits-ahead}
-use Rattle.text.proofs.Words.{Stands, stands-byte, stands-then, stands-front, stands-back, stands-first, Agree}
+use Rattle.text.proofs.Words.{WordAt, stands-byte, stands-then, stands-front, stands-back, stands-first, Agree}
 use Rattle.text.proofs.Parts.{Begun, here, after}
 
 module _ (top : ℕ) where
   -- ---- What is read is a number.
 
   module _ (s : List ℕ) where
-    more-begun : (l : List ℕ) (i y v : ℕ) (w : List ℕ) → drop y s ≡ l → Stands s i y w → Numeral top w v
+    more-begun : (l : List ℕ) (i y v : ℕ) (w : List ℕ) → drop y s ≡ l → WordAt s i y w → Numeral top w v
         → let n = moreDigits top v y l in Begun (λ u. Numeral top u (n .value)) s i (n .next) []
     unfolding moreDigits
     more-begun [] i y v w e a d = after a (here (rw append-nil d))
@@ -44,13 +44,13 @@ module _ (top : ℕ) where
   numeral-within h (longer n k d within) = within
 
   -- a number begins with a digit
-  pub numeral-first : {r : List ℕ} {i y v : ℕ} {w : List ℕ} → Numeral top w v → Stands r i y w → isDigit (byteAt r i) ≡ true
+  pub numeral-first : {r : List ℕ} {i y v : ℕ} {w : List ℕ} → Numeral top w v → WordAt r i y w → isDigit (byteAt r i) ≡ true
   numeral-first (digit {d = d} h) a = rw (stands-first a) (digit-is (zeroDigit + d) (omega arith) (omega arith))
   numeral-first {i = i} (longer {w = w} {d = d} n h k l) a = numeral-first n (stands-front i w ((zeroDigit + d) ∷ []) a)
 
   -- of r, and of s too
   module _ (s r : List ℕ) where
-    digits-so-far : {i y v : ℕ} {w : List ℕ} → Numeral top w v → Stands r i y w → Agree (digitsAt top s i .next) s r
+    digits-so-far : {i y v : ℕ} {w : List ℕ} → Numeral top w v → WordAt r i y w → Agree (digitsAt top s i .next) s r
         → digitsAt top s i ≡ moreDigits top v y (drop y s)
     unfolding digitsAt
     digits-so-far {i} (digit {d = d} h) a agree =
@@ -65,7 +65,7 @@ module _ (top : ℕ) where
         let t : Takes top v (zeroDigit + d) = record { some = h; digit = digit-is (zeroDigit + d) (omega arith) (omega arith); within = rw value l } in
         so-far ∙ more-takes top s v x (rw at (takes-is top v (zeroDigit + d) t)) ∙ rw (at, value, back .end)
 
-    pub digits-only : {i y v : ℕ} {w : List ℕ} → Numeral top w v → Stands r i y w → Agree (digitsAt top s i .next) s r → isDigit (byteAt r y) ≡ false
+    pub digits-only : {i y v : ℕ} {w : List ℕ} → Numeral top w v → WordAt r i y w → Agree (digitsAt top s i .next) s r → isDigit (byteAt r y) ≡ false
         → digitsAt top s i ≡ record { value = v; next = y }
     digits-only {y = y} {v = v} n a agree e =
         let so-far = digits-so-far n a agree in

@@ -17,7 +17,7 @@ use Rattle.text.specs.Grammar.{Level, Level.sum, Level.term, Level.facto
 use Rattle.text.specs.Grammar.{Is.first, Is.minus, Is.plus, Is.less, Is.single, Is.times, Is.plain, Is.power, Is.number, Is.letter, Is.bracket}
 use Rattle.text.specs.Reader.{Span, span, Digits, byteAt, readExponent, isTimes, isSign, signed, inBrackets}
 use Rattle.text.proofs.Byte.{decide, above-digits, letter-above}
-use Rattle.text.proofs.Words.{Stands, stands-front, stands-back, stands-first}
+use Rattle.text.proofs.Words.{WordAt, stands-front, stands-back, stands-first}
 use Rattle.text.proofs.Parts.{reading}
 use Rattle.text.proofs.Numerals.{numeral-first, digits-only}
 use Rattle.text.proofs.Sound.{reading-ahead}
@@ -58,7 +58,7 @@ module _ (s r : List ℕ) where
   ends term l i alike c f = stops s r _ (reading-ahead factor l s) (c (f .0, f .1)) alike (f .2)
   ends sum l i alike c f = stops s r _ (reading-ahead term l s) (c (f .0, f .1, f .2)) alike (f .3)
 
-  reached : {k : Level} {l i y : ℕ} {w : List ℕ} {t : Tree} → Is k l w t → Stands r i y w → Alike s r (reading k l s i)
+  reached : {k : Level} {l i y : ℕ} {w : List ℕ} {t : Tree} → Is k l w t → WordAt r i y w → Alike s r (reading k l s i)
       → MayFollow k (byteAt r y) → Reached k l i (span t y)
   unfolding isDigit isTimes isSign signed
   reached {l = l} {i = i} (first d) a alike f =
@@ -110,6 +110,6 @@ module _ (s r : List ℕ) where
       let at = alike (p .next) (rw whole (closing-ahead s p)) ∙ stands-first back in
       whole ∙ closed s (p .next) refl t at ∙ rw (back .end)
 
-  pub reads : {k : Level} {l i y : ℕ} {w : List ℕ} {t : Tree} → Is k l w t → Stands r i y w → Alike s r (reading k l s i) → Follow k (byteAt r y)
+  pub reads : {k : Level} {l i y : ℕ} {w : List ℕ} {t : Tree} → Is k l w t → WordAt r i y w → Alike s r (reading k l s i) → Follow k (byteAt r y)
       → reading k l s i ≡ good (span t y)
   reads {k} {l} {i} d a alike f = ends k l i alike (λ g. reached d a alike g) f

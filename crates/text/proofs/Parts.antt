@@ -8,21 +8,21 @@ use Rattle.answers.specs.Judge.{Judged, Judged.good, Judged.fails, andThen}
 use Rattle.text.specs.Tree.{Tree}
 use Rattle.text.specs.Grammar.{Level, Level.sum, Level.term, Level.factor, Level.atom}
 use Rattle.text.specs.Reader.{Span, byteAt, Reader, readAtom, readFactor, readTerm, readSum, inBrackets}
-use Rattle.text.proofs.Words.{Stands, stands-none, stands-byte, stands-then}
+use Rattle.text.proofs.Words.{WordAt, stands-none, stands-byte, stands-then}
 
 -- ---- Parts. P says what the words of the part are.
 
 -- the bytes from place i up to place p are P, once `rest` is put after them
 pub record Begun (P : List ℕ → Type 0) (s : List ℕ) (i p : ℕ) (rest : List ℕ) : Type 0 where
   pub word : List ℕ
-  pub stands : Stands s i p word
+  pub stands : WordAt s i p word
   pub is : P (word ++ rest)
 
 module _ {s : List ℕ} {i : ℕ} {rest : List ℕ} where
   pub here : {P : List ℕ → Type 0} → P rest → Begun P s i i rest
   here h = record { word = []; stands = stands-none; is = h }
 
-  pub after : {P : List ℕ → Type 0} {x p : ℕ} {w : List ℕ} → Stands s i x w → Begun (λ v. P (w ++ v)) s x p rest → Begun P s i p rest
+  pub after : {P : List ℕ → Type 0} {x p : ℕ} {w : List ℕ} → WordAt s i x w → Begun (λ v. P (w ++ v)) s x p rest → Begun P s i p rest
   after {w = w} a d = record { word = w ++ d .word; stands = stands-then a (d .stands); is = rw append-assoc (d .is) }
 
 module _ {s : List ℕ} {i p : ℕ} {rest : List ℕ} where
@@ -53,17 +53,17 @@ End (good q) = q .next
 End (fails refusal p) = p
 
 -- some part with a tree can be finished
-pub record Fault (P : List ℕ → Tree → Type 0) (s : List ℕ) (i p : ℕ) : Type 0 where
+pub record StopsAt (P : List ℕ → Tree → Type 0) (s : List ℕ) (i p : ℕ) : Type 0 where
   pub rest : List ℕ
   pub tree : Tree
   pub begun : Begun (λ w. P w tree) s i p rest
 
-pub fault : {P : List ℕ → Tree → Type 0} {s : List ℕ} {i p : ℕ} {rest : List ℕ} (t : Tree) → Begun (λ w. P w t) s i p rest → Fault P s i p
+pub fault : {P : List ℕ → Tree → Type 0} {s : List ℕ} {i p : ℕ} {rest : List ℕ} (t : Tree) → Begun (λ w. P w t) s i p rest → StopsAt P s i p
 fault {rest = rest} t d = record { rest = rest; tree = t; begun = d }
 
 abbrev pub Good : (List ℕ → Tree → Type 0) → List ℕ → ℕ → Judged Span → Type 0
 Good P s i (good q) = Begun (λ w. P w (q .tree)) s i (q .next) []
-Good P s i (fails refusal p) = (refusal ≡ TEXT) × Fault P s i p
+Good P s i (fails refusal p) = (refusal ≡ TEXT) × StopsAt P s i p
 
 pub good-ahead : (P : List ℕ → Tree → Type 0) (s : List ℕ) (i : ℕ) (g : Judged Span) → Good P s i g → i ≤ End g
 good-ahead P s i (good q) d = omega (arith, d .stands .end)
@@ -71,7 +71,7 @@ good-ahead P s i (fails refusal p) d = omega (arith, d .1 .begun .stands .end)
 
 pub good-then : {P Q : List ℕ → Tree → Type 0} {s : List ℕ} {i j : ℕ} (g : Judged Span) (f : Span → Judged Span) → Good Q s j g
     → ((q : Span) → Begun (λ w. Q w (q .tree)) s j (q .next) [] → Good P s i (f q))
-    → ((p : ℕ) (rest : List ℕ) (t : Tree) → Begun (λ w. Q w t) s j p rest → Fault P s i p)
+    → ((p : ℕ) (rest : List ℕ) (t : Tree) → Begun (λ w. Q w t) s j p rest → StopsAt P s i p)
     → Good P s i (andThen g f)
 unfolding andThen
 good-then (good q) f d go-on stop = go-on q d

@@ -20,7 +20,7 @@ use Rattle.text.specs.Reader.{readLetter, readAtom, readExponent, readFa
 use Rattle.text.proofs.Byte.{decide, passes-some, letter-above}
 use Rattle.text.proofs.Operands.{Operands, factors, terms, more}
 use Rattle.text.proofs.Words.{stands-byte}
-use Rattle.text.proofs.Parts.{Begun, here, after, mapped, taken, joined, reading, End, Fault, fault, Good, good-ahead, good-then}
+use Rattle.text.proofs.Parts.{Begun, here, after, mapped, taken, joined, reading, End, StopsAt, fault, Good, good-ahead, good-then}
 use Rattle.text.proofs.Numerals.{digits-begun}
 
 -- ---- Operands joined to what was read.
@@ -50,7 +50,7 @@ module _ (s : List ℕ) (P Q : List ℕ → Tree → Type 0) (o : Operands)
 nought : {top : ℕ} {s : List ℕ} {i : ℕ} → Begun (λ w. Numeral top w 0) s i i (zeroDigit ∷ [])
 nought = here (digit (omega arith))
 
-missing : {s : List ℕ} {l i : ℕ} → Fault (Is atom l) s i i
+missing : {s : List ℕ} {l i : ℕ} → StopsAt (Is atom l) s i i
 missing = fault _ (mapped (λ w. number) nought)
 
 times-rule : {l : ℕ} (b : ℕ) (t u : Tree) (w v : List ℕ) → isTimes b ≡ true → Is term l w t → Is factor l v u

@@ -13,7 +13,8 @@ use mir.ValLaws.{toZ-pos}
 use Rattle.algebra.specs.Limits.{largestDegree, mostNodes}
 use lib.Ieee.Fits.{and-i}
 use Rattle.nodes.specs.declared.Kind as declared
-use Rattle.nodes.specs.Node.{Kind, numbersOf, kindOf}
+use Rattle.nodes.specs.Node.{Kind, numbersOf}
+use Rattle.nodes.specs.Inside.Code.{kindOf}
 use Rattle.text.specs.Inside.Laid.{putNode}
 
 module _ (table : List ℤ) (n : ℕ) (k : Kind) where

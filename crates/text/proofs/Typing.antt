@@ -15,36 +15,19 @@ use Rattle.answers.specs.Judge.{Judged, Judged.good, Judged.fails}
 use Rattle.nodes.specs.Node.{tableOf}
 use Rattle.text.specs.Limits.{longestText, tablePlaces}
 use Rattle.text.specs.Tree.{Tree, size, nodesOf}
-use Rattle.text.specs.Grammar.{Formula, Longest}
+use Rattle.text.specs.Grammar.{Formula}
 use Rattle.text.specs.Reader.{readWhole}
 use Rattle.text.specs.Text.{readFormula}
+use Rattle.text.specs.Promised.{Typed, TextRefuses, TextRefuses.no-room, TextRefuses.too-long, TextRefuses.no-formula, TextRefuses.too-many}
 use Rattle.text.proofs.Byte.{decide}
 use Rattle.text.proofs.Answering as answer
 use Rattle.text.proofs.Formulas.{read-formula, formula-read, stops-longest, stops-none, longest-stops}
 
 module _ (text : List ℕ) (table : List ℤ) where
-  -- it is done: the text is a formula, and the nodes of its tree are in the table area
-  pub record Typed (n : ℕ) (table' : List ℤ) : Type 0 where
-    pub tree : Tree
-    pub room : tablePlaces ≤ length table
-    pub short : length text ≤ longestText
-    pub formula : Formula text tree
-    pub few : size tree ≤ mostNodes
-    pub many : n ≡ size tree
-    pub table-is : table' ≡ written (tableOf (nodesOf 0 tree)) table
-
-  -- it is refused: the refusal, its place, and the table area, which stays
-  pub data Refuses : ℕ → ℕ → List ℤ → Type 0 where
-    no-room : length table < tablePlaces → Refuses ROOM 0 table
-    too-long : tablePlaces ≤ length table → longestText < length text → Refuses TEXT longestText table
-    no-formula : {p : ℕ} → tablePlaces ≤ length table → length text ≤ longestText → ((t : Tree) → Formula text t → ⊥) → Longest text p
-        → Refuses TEXT p table
-    too-many : {t : Tree} → tablePlaces ≤ length table → length text ≤ longestText → Formula text t → mostNodes < size t → Refuses NODES 0 table
-
-  pub typed-accepts : {n : ℕ} {table' : List ℤ} → Typed n table' → readFormula text table ≡ outcome (done n) table'
+  pub typed-accepts : {n : ℕ} {table' : List ℤ} → Typed text table n table' → readFormula text table ≡ outcome (done n) table'
   typed-accepts d = sym (answer.all-done text table (d .room) (d .short) (read-formula text (d .tree) (d .formula)) (d .many) (omega arith) (d .table-is))
 
-  pub refuses-typed : {refusal p : ℕ} {table' : List ℤ} → Refuses refusal p table' → readFormula text table ≡ outcome (refused refusal p) table'
+  pub refuses-typed : {refusal p : ℕ} {table' : List ℤ} → TextRefuses text table refusal p table' → readFormula text table ≡ outcome (refused refusal p) table'
   refuses-typed (no-room h) = sym (answer.no-room text table h)
   refuses-typed (too-long r h) = sym (answer.too-long text table r h)
   refuses-typed (no-formula {p = p} r s none l) = sym (answer.no-formula text table r s (longest-stops text p l none))
@@ -54,20 +37,20 @@ module _ (text : List ℕ) (table : List ℤ) where
 
   -- what stands behind an answer, and behind an outcome
   abbrev Behind : Told → List ℤ → Type 0
-  Behind (done n) table' = Typed n table'
-  Behind (refused refusal p) table' = Refuses refusal p table'
+  Behind (done n) table' = Typed text table n table'
+  Behind (refused refusal p) table' = TextRefuses text table refusal p table'
 
   abbrev Explains : Outcome (List ℤ) → Type 0
   Explains o = Behind (o .answer) (o .areas)
 
-  refused-so : {refusal p : ℕ} {table' : List ℤ} → Refuses refusal p table' → Explains (readFormula text table)
+  refused-so : {refusal p : ℕ} {table' : List ℤ} → TextRefuses text table refusal p table' → Explains (readFormula text table)
   refused-so d = subst Explains (sym (refuses-typed d)) d
 
   read-so : tablePlaces ≤ length table → length text ≤ longestText → (j : Judged Tree) → readWhole text ≡ j → Explains (readFormula text table)
   read-so r s (good t) e =
       let d = formula-read text t e in
       decide (leb (size t) mostNodes)
-      (λ f. let typed : Typed (size t) (written (tableOf (nodesOf 0 t)) table) = record {
+      (λ f. let typed : Typed text table (size t) (written (tableOf (nodesOf 0 t)) table) = record {
         tree = t;
         room = r;
         short = s;
@@ -88,8 +71,8 @@ module _ (text : List ℕ) (table : List ℤ) where
       (λ f. refused-so (too-long r (leb-false (length text) longestText f))))
       (λ e. refused-so (no-room (leb-false tablePlaces (length table) e)))
 
-  pub typed-means : {n : ℕ} {table' : List ℤ} → readFormula text table ≡ outcome (done n) table' → Typed n table'
+  pub typed-means : {n : ℕ} {table' : List ℤ} → readFormula text table ≡ outcome (done n) table' → Typed text table n table'
   typed-means e = subst Explains e explained
 
-  pub typed-refuses : {refusal p : ℕ} {table' : List ℤ} → readFormula text table ≡ outcome (refused refusal p) table' → Refuses refusal p table'
+  pub typed-refuses : {refusal p : ℕ} {table' : List ℤ} → readFormula text table ≡ outcome (refused refusal p) table' → TextRefuses text table refusal p table'
   typed-refuses e = subst Explains e explained

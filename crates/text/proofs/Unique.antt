@@ -1,6 +1,7 @@
 -- The public function's contract leaves one outcome, as its caller sees it: the answer, and every place of the table area.
 use denote.Ref.{now}
-use Rattle.answers.proofs.Outcomes.{OneLent, same}
+use Rattle.answers.proofs.Outcomes.{same}
+use Rattle.answers.specs.Promised.{OneLent}
 use Rattle.answers.proofs.Unique.{outcome-one}
 use Rattle.text.proofs.read_formula.Reads as read-formula
 

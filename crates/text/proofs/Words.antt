@@ -9,18 +9,18 @@ use Rattle.text.specs.Reader.{byteAt}
 use Rattle.text.proofs.Byte.{from-byte, first-byte}
 
 -- the word stands in the text from place i up to place j
-pub record Stands (s : List ℕ) (i j : ℕ) (w : List ℕ) : Type 0 where
+pub record WordAt (s : List ℕ) (i j : ℕ) (w : List ℕ) : Type 0 where
   pub end : j ≡ i + length w
   pub split : drop i s ≡ w ++ drop j s
 
 module _ {s : List ℕ} where
-  pub stands-none : {i : ℕ} → Stands s i i []
+  pub stands-none : {i : ℕ} → WordAt s i i []
   stands-none = record { end = omega arith; split = refl }
 
-  pub stands-byte : {i b : ℕ} → byteAt s i ≡ b → 1 ≤ b → Stands s i (i + 1) (b ∷ [])
+  pub stands-byte : {i b : ℕ} → byteAt s i ≡ b → 1 ≤ b → WordAt s i (i + 1) (b ∷ [])
   stands-byte {i} {b} e h = record { end = refl; split = from-byte s i b e h }
 
-  pub stands-then : {i j k : ℕ} {w v : List ℕ} → Stands s i j w → Stands s j k v → Stands s i k (w ++ v)
+  pub stands-then : {i j k : ℕ} {w v : List ℕ} → WordAt s i j w → WordAt s j k v → WordAt s i k (w ++ v)
   stands-then {w = w} {v = v} a b = record {
     end = omega (arith, a .end, b .end, length-append w v);
     split = a .split ∙ rw (b .split, append-assoc);
@@ -28,17 +28,17 @@ module _ {s : List ℕ} where
 
   -- ---- The parts of a word.
 
-  module _ (i : ℕ) {k : ℕ} (w v : List ℕ) (a : Stands s i k (w ++ v)) where
-    pub stands-back : Stands s (i + length w) k v
+  module _ (i : ℕ) {k : ℕ} (w v : List ℕ) (a : WordAt s i k (w ++ v)) where
+    pub stands-back : WordAt s (i + length w) k v
     stands-back = record {
       end = omega (arith, a .end, length-append w v);
       split = sym (drop-drop (length w) i s) ∙ rw (a .split, append-assoc, drop-append-seam);
     }
 
-    pub stands-front : Stands s i (i + length w) w
+    pub stands-front : WordAt s i (i + length w) w
     stands-front = record { end = refl; split = a .split ∙ append-assoc w v (drop k s) ∙ rw (stands-back .split) }
 
-  pub stands-first : {i k b : ℕ} {v : List ℕ} → Stands s i k (b ∷ v) → byteAt s i ≡ b
+  pub stands-first : {i k b : ℕ} {v : List ℕ} → WordAt s i k (b ∷ v) → byteAt s i ≡ b
   stands-first {i} a = sym (first-byte s i) ∙ rw (a .split)
 
 -- ---- Two texts.

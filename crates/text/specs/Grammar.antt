@@ -46,5 +46,5 @@ pub record Longest (text : List ℕ) (p : ℕ) : Type 0 where
   pub rest : List ℕ
   pub tree : Tree
   pub begins : Formula (take p text ++ rest) tree
-  -- none begins with one byte more
-  pub none : p < length text → (other : List ℕ) (t : Tree) → Formula (take (p + 1) text ++ other) t → ⊥
+  -- none begins with a longer prefix
+  pub none : (q : ℕ) → p < q → q ≤ length text → (other : List ℕ) (t : Tree) → Formula (take q text ++ other) t → ⊥

@@ -2,8 +2,6 @@
 use mathlib.Core.Bool.{cond, _&&_}
 use Prim.Native.Nat.{ℕ, _-_}
 use lib.Dec.{leb}
-use Rattle.text.specs.declared.bytes.Letter as declared
-use Rattle.text.specs.declared.bytes.Letter.the-variants as code
 
 pub data Letter : Type 0 where
   -- the variable that it names
@@ -13,8 +11,3 @@ pub data Letter : Type 0 where
 -- a is 97, h is 104: a to h name the variables 0 to 7
 unfoldable pub letterOf : ℕ → Letter
 letterOf b = cond (leb 97 b && leb b 104) (names (b - 97)) nothing
-
--- each case of the code's enum
-abbrev pub letterIs : declared.Letter → Letter
-letterIs (code.Names v) = names v
-letterIs code.Nothing = nothing

@@ -5,4 +5,5 @@ pub mod Tree
 pub mod Grammar
 pub mod Reader
 pub mod Text
+pub mod Promised
 pub mod Inside

@@ -17,6 +17,6 @@ largestNumber = largestWeight
 abbrev pub largestExponent : ℕ
 largestExponent = largestDegree
 
--- what the table area needs: three places for each node
+-- what the table area needs: three places for each node, 192 in all
 abbrev pub tablePlaces : ℕ
 tablePlaces = 3 * mostNodes

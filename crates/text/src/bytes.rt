@@ -4,7 +4,8 @@ ghost use mathlib.Core.Bool.{true};
 ghost use Prim.Native.Nat.{_≤_};
 ghost use lib.ListN.{length};
 ghost use Rattle.text.specs.Signs.{isDigit};
-ghost use Rattle.text.specs.Letters.{letterOf, letterIs};
+ghost use Rattle.text.specs.Letters.{letterOf};
+ghost use Rattle.text.specs.Inside.Code.{letterIs};
 ghost use Rattle.text.specs.Reader.{byteAt, takes, digitsAt, isSign, afterMinus};
 
 // What a byte names.

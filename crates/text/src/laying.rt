@@ -8,7 +8,8 @@ ghost use Prim.Native.Nat.{_*_, _≤_, _<_};
 ghost use lib.Dec.{T};
 ghost use lib.Seq.{sets};
 ghost use Rattle.algebra.specs.Limits.{mostNodes};
-ghost use Rattle.nodes.specs.Node.{isNode, kindOf};
+ghost use Rattle.nodes.specs.Node.{isNode};
+ghost use Rattle.nodes.specs.Inside.Code.{kindOf};
 ghost use Rattle.text.specs.Limits.{longestText};
 ghost use Rattle.text.specs.Inside.Laid.{putNode, signedCount, signedTable};
 

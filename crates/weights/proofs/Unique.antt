@@ -1,5 +1,6 @@
 -- Each public function's contract leaves one result.
-use Rattle.answers.proofs.Outcomes.{One, same}
+use Rattle.answers.proofs.Outcomes.{same}
+use Rattle.answers.specs.Promised.{One}
 use Rattle.weights.proofs.larger.Reads as larger
 use Rattle.weights.proofs.cap.Reads as cap
 use Rattle.weights.proofs.sum.Reads as sum

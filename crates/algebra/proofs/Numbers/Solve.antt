@@ -9,7 +9,7 @@ use lib.ListN.{getD}
 use lib.IntN.{ℤ, pos, negsuc, negℤ, _+ℤ_, _*ℤ_, +ℤ-idr, one, pow}
 use Rattle.algebra.specs.Pattern.{Pattern, times, degree, same, thenBy, byPowers, order}
 use Rattle.algebra.specs.Sum.{term, Sum}
-use Rattle.algebra.specs.Collect.{place, insert, gather, keep, dropZeros, collect}
+use Rattle.algebra.specs.Collect.{settle, insert, gather, keep, dropZeros, collect}
 use Rattle.algebra.specs.Arithmetic.{row, pairs, _⊕_, _⊗_}
 use Rattle.algebra.specs.Value.{total, patternValue, value}
 use Rattle.algebra.proofs.Numbers.Whole.{one-*ℤ, *ℤ-oner, negℤ-*ℤ}
@@ -44,7 +44,7 @@ unknown (suc i) = 0 ∷ unknown i
 
 -- its ordered sum, in as many variables as it needs
 unfoldable pub sumOf : Formula → Sum
-unfolding times degree thenBy byPowers order place insert gather keep dropZeros collect row pairs _⊕_ _⊗_ unknown
+unfolding times degree thenBy byPowers order settle insert gather keep dropZeros collect row pairs _⊕_ _⊗_ unknown
 sumOf (v i) = term (pos 1) (unknown i) ∷ []
 sumOf (k c) = collect (term c [] ∷ [])
 sumOf (e :+ f) = sumOf e ⊕ sumOf f

@@ -4,8 +4,9 @@ use mathlib.Core.Path.{_≡_, refl, sym, _∙_, ap, subst}
 use mathlib.Core.Bool.{Bool, true, false, not, cond}
 use Prim.Native.Nat.{ℕ, zero, suc, _+_, _*_, _-_, _<_, _≤_}
 use native.Mathlib.Omega.{arith}
-use lib.Dec.{T, ltb, ltb→lt, nltb→le}
-use lib.IntN.{ℤ, pos, negsuc, subℕ, negℤ, _+ℤ_, _*ℤ_, +ℤ-comm, +ℤ-assoc, +ℤ-idl, +ℤ-invl, *ℤ-comm}
+use lib.Dec.{T, ltb, ltb→lt, nltb→le, le→leb, leb→le}
+use lib.IntN.{ℤ, pos, negsuc, natAbs, subℕ, negℤ, _+ℤ_, _-ℤ_, _*ℤ_, +ℤ-comm, +ℤ-assoc, +ℤ-idl, +ℤ-invl, *ℤ-comm}
+use lib.Signed.{_≤ℤ_, leZ-yes}
 
 -- a number is above less below, and one of the two is 0
 abbrev above : ℤ → ℕ
@@ -128,3 +129,46 @@ pub +ℤ-cancel : (a b c : ℤ) → a +ℤ b ≡ a +ℤ c → b ≡ c
   where
     back : (z : ℤ) → negℤ a +ℤ (a +ℤ z) ≡ z
     back z = sym (+ℤ-assoc (negℤ a) a z) ∙ ap (λ w. w +ℤ z) (+ℤ-invl a) ∙ +ℤ-idl z
+
+-- ---- The order.
+
+le-parts : (x y : ℤ) → above x + below y ≤ above y + below x → x ≤ℤ y
+le-parts (pos m) (pos n) h = leZ-yes (le→leb m n (omega arith))
+le-parts (pos m) (negsuc n) h = absurd (omega arith)
+le-parts (negsuc m) (pos n) h = leZ-yes tt
+le-parts (negsuc m) (negsuc n) h = leZ-yes (le→leb n m (omega arith))
+
+abs-parts : (x : ℤ) → natAbs x ≡ above x + below x
+abs-parts (pos n) = omega arith
+abs-parts (negsuc n) = omega arith
+
+-- a number that is at most m away from e lies between e - m and e + m
+pub within-abs : (z e : ℤ) (m : ℕ) → natAbs (z -ℤ e) ≤ m → ((e -ℤ pos m) ≤ℤ z) × (z ≤ℤ (e +ℤ pos m))
+within-abs z e m h =
+    let apart = add-is z (negℤ e) in
+    let least = add-is e (negℤ (pos m)) in
+    let size = abs-parts (z -ℤ e) in
+    (
+      le-parts (e -ℤ pos m) z (omega (arith, h, apart, least, size, neg-above e, neg-below e, neg-above (pos m), neg-below (pos m))),
+      le-parts z (e +ℤ pos m) (omega (arith, h, apart, add-is e (pos m), size, neg-above e, neg-below e)),
+    )
+
+parts-le : (x y : ℤ) → x ≤ℤ y → above x + below y ≤ above y + below x
+parts-le (pos m) (pos n) h = omega (arith, leb→le m n (h .le))
+parts-le (pos m) (negsuc n) h = absurd (h .le)
+parts-le (negsuc m) (pos n) h = omega arith
+parts-le (negsuc m) (negsuc n) h = omega (arith, leb→le n m (h .le))
+
+-- and the other way round
+pub between-abs : (z e : ℤ) (m : ℕ) → (e -ℤ pos m) ≤ℤ z → z ≤ℤ (e +ℤ pos m) → natAbs (z -ℤ e) ≤ m
+between-abs z e m low high = go (z -ℤ e) (add-is z (negℤ e))
+  where
+    least : below z + above e ≤ above z + below e + m
+    least = omega (arith, parts-le (e -ℤ pos m) z low, add-is e (negℤ (pos m)), neg-above (pos m), neg-below (pos m))
+
+    most : above z + below e ≤ above e + below z + m
+    most = omega (arith, parts-le z (e +ℤ pos m) high, add-is e (pos m))
+
+    go : (d : ℤ) → above d + (below z + below (negℤ e)) ≡ above z + above (negℤ e) + below d → natAbs d ≤ m
+    go (pos n) is = omega (arith, is, most, neg-above e, neg-below e)
+    go (negsuc n) is = omega (arith, is, least, neg-above e, neg-below e)

@@ -6,7 +6,8 @@ use native.Mathlib.Omega.{arith}
 use native.Mathlib.Nat.{add-comm, add-assoc, add-zero, zero-add}
 use lib.ListN.{length, set, length-set, length-append, length-replicate}
 use lib.Seq.{getD-set-same, set-set, set-getD}
-use Rattle.algebra.specs.Pattern.{Pattern, emptyPattern, times, degree, exponent, raised, lowered, without, filled}
+use Rattle.algebra.specs.Pattern.{Pattern, emptyPattern, times, degree, exponent, raised, lowered, without}
+use Rattle.algebra.specs.Inside.Filled.{filled}
 
 -- ---- Products.
 

@@ -5,7 +5,8 @@ use Prim.Native.Nat.{ℕ, _-_, _<_, compare, Ordering, Ordering·lt, Ordering·e
 use native.Mathlib.Omega.{arith}
 use lib.Dec.{T, eqb, eqb→eq, eqb-refl}
 use lib.ListN.{length, set, length-set}
-use Rattle.algebra.specs.Pattern.{Pattern, emptyPattern, filled, times, degree, exponent, lowered, without, same, thenBy, byPowers, order}
+use Rattle.algebra.specs.Pattern.{Pattern, emptyPattern, times, degree, exponent, lowered, without, same, thenBy, byPowers, order}
+use Rattle.algebra.specs.Inside.Filled.{filled}
 use lib.Ieee.Fits.{and-i, and-l, and-r}
 use Rattle.algebra.proofs.Patterns.Laws.{times-comm, degree-times, present, raised-lowered, raised-times, alone-length, without-times, filled-degree}
 use Rattle.algebra.proofs.Numbers.Compare.{Says, compare-says, compare-is, compare-eq, turn, compare-turn, compare-add}

@@ -7,7 +7,7 @@ use lib.ListN.{set}
 use Rattle.algebra.specs.Pattern.{Pattern, emptyPattern, same}
 use Rattle.algebra.specs.Sum.{Term, term, Sum}
 use Rattle.algebra.specs.Collect.{collect}
-use Rattle.algebra.specs.Arithmetic.{integer, unit, variable, _⊕_}
+use Rattle.algebra.specs.Arithmetic.{integer, oneSum, variable, _⊕_}
 use Rattle.algebra.specs.Value.{total, onlyIf, coefficientIn, coefficient}
 use Rattle.algebra.proofs.Sums.Total.{collect-total}
 use Rattle.algebra.proofs.Sums.Equal.{coefficient-additive}
@@ -26,7 +26,7 @@ unfolding integer
 integer-coefficient n c r = collect-coefficient (term c (emptyPattern n) ∷ []) r ∙ one-coefficient c (emptyPattern n) r
 
 -- a power with exponent 0 is this
-pub unit-coefficient : (n : ℕ) (r : Pattern) → coefficient (unit n) r ≡ onlyIf (same r (emptyPattern n)) (pos 1)
+pub unit-coefficient : (n : ℕ) (r : Pattern) → coefficient (oneSum n) r ≡ onlyIf (same r (emptyPattern n)) (pos 1)
 unit-coefficient n r = one-coefficient (pos 1) (emptyPattern n) r
 
 pub variable-coefficient : (n v : ℕ) (r : Pattern) → coefficient (variable n v) r ≡ onlyIf (same r (set (emptyPattern n) v 1)) (pos 1)

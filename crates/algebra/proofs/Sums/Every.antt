@@ -8,7 +8,7 @@ use lib.Dec.{T, eqb, eqb→eq, eqb-refl}
 use lib.ListN.{length}
 use Rattle.algebra.specs.Pattern.{Pattern, times, degree, order}
 use Rattle.algebra.specs.Sum.{Term, Sum, isZero, inVariables, degreeOf}
-use Rattle.algebra.specs.Collect.{place, insert, gather, keep, dropZeros, collect}
+use Rattle.algebra.specs.Collect.{settle, insert, gather, keep, dropZeros, collect}
 use Rattle.algebra.specs.Arithmetic.{row, pairs}
 use lib.Ieee.Fits.{and-i, and-l, and-r}
 
@@ -25,8 +25,8 @@ module _ (P : Pattern → Type 0) where
   append-every [] m h k = k
   append-every (t ∷ l) m h k = (h .0, append-every l m (h .1) k)
 
-  place-every : (o : Ordering) (t u : Term) (s after : Sum) → P (t .pattern) → P (u .pattern) → Every P s → Every P after → Every P (place o t u s after)
-  unfolding place
+  place-every : (o : Ordering) (t u : Term) (s after : Sum) → P (t .pattern) → P (u .pattern) → Every P s → Every P after → Every P (settle o t u s after)
+  unfolding settle
   place-every Ordering·lt t u s after h k l m = (h, (k, l))
   place-every Ordering·eq t u s after h k l m = (k, l)
   place-every Ordering·gt t u s after h k l m = (k, m)

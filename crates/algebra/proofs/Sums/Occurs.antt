@@ -9,7 +9,7 @@ use lib.IntN.{ℤ, pos, _+ℤ_}
 use lib.ListN.{length}
 use Rattle.algebra.specs.Pattern.{Pattern, same, order}
 use Rattle.algebra.specs.Sum.{Term, Sum, isZero, ahead, inOrder}
-use Rattle.algebra.specs.Collect.{place, insert, gather, keep, dropZeros, collect, occurs, countNew, spread}
+use Rattle.algebra.specs.Collect.{settle, insert, gather, keep, dropZeros, collect, occurs, countNew, spread}
 use Rattle.algebra.specs.Value.{total, onlyIf, coefficient}
 use lib.Ieee.Bits.{is-true}
 use Rattle.algebra.proofs.Numbers.Test.{false-is, or-swap}
@@ -50,8 +50,8 @@ ahead-absent p (t ∷ s) h k =
     ap₂ _||_ (before-apart p (t .pattern) e) (ahead-absent p s (order-tail t s h) (ahead-trans p (t .pattern) s e (order-head t s h)))
 
 place-occurs : (r : Pattern) (o : Ordering) (t u : Term) (s after : Sum) → (o ≡ Ordering·eq → t .pattern ≡ u .pattern)
-    → occurs r after ≡ same r (t .pattern) || occurs r s → occurs r (place o t u s after) ≡ same r (t .pattern) || (same r (u .pattern) || occurs r s)
-unfolding place occurs
+    → occurs r after ≡ same r (t .pattern) || occurs r s → occurs r (settle o t u s after) ≡ same r (t .pattern) || (same r (u .pattern) || occurs r s)
+unfolding settle occurs
 place-occurs r Ordering·lt t u s after f e = refl
 place-occurs r Ordering·eq t u s after f e = rw (f refl) (sym (or-self-left (same r (u .pattern)) (occurs r s)))
 place-occurs r Ordering·gt t u s after f e = rw e (or-swap (same r (u .pattern)) (same r (t .pattern)) (occurs r s))
@@ -85,8 +85,8 @@ count-suc true m = refl
 count-suc false m = refl
 
 place-length : (o : Ordering) (t u : Term) (s after : Sum) → order (t .pattern) (u .pattern) ≡ o → (o ≡ Ordering·lt → occurs (t .pattern) (u ∷ s) ≡ false)
-    → length after ≡ countNew (occurs (t .pattern) s) (length s) → length (place o t u s after) ≡ countNew (occurs (t .pattern) (u ∷ s)) (suc (length s))
-unfolding place countNew
+    → length after ≡ countNew (occurs (t .pattern) s) (length s) → length (settle o t u s after) ≡ countNew (occurs (t .pattern) (u ∷ s)) (suc (length s))
+unfolding settle countNew
 place-length Ordering·lt t u s after e f h = rw (f refl)
 place-length Ordering·eq t u s after e f h = ap (λ b. countNew b (suc (length s))) (sym (is-true (occurs (t .pattern) (u ∷ s)) here))
   where

@@ -8,7 +8,7 @@ use lib.ListN.{length}
 use Rattle.algebra.specs.Pattern.{Pattern, times, order}
 use Rattle.algebra.specs.Sum.{Term, term, Sum, isZero, isBefore, ahead, inOrder, noZero, inVariables, ordered}
 use Rattle.algebra.specs.Arithmetic.{timesTerm, row}
-use Rattle.algebra.specs.Collect.{place, insert, gather, keep, dropZeros, collect}
+use Rattle.algebra.specs.Collect.{settle, insert, gather, keep, dropZeros, collect}
 use lib.Ieee.Fits.{and-i, and-l, and-r}
 use Rattle.algebra.proofs.Numbers.Test.{false-is}
 use Rattle.algebra.proofs.Numbers.Compare.{turn}
@@ -78,8 +78,8 @@ ahead-trans p q (t ∷ s) h k = is-before (order p (t .pattern)) (order-trans p 
 
 -- ---- Insertion.
 
-place-ahead : (p : Pattern) (o : Ordering) (t u : Term) (s after : Sum) → order p (t .pattern) ≡ Ordering·lt → order p (u .pattern) ≡ Ordering·lt → T (ahead p (place o t u s after))
-unfolding place ahead
+place-ahead : (p : Pattern) (o : Ordering) (t u : Term) (s after : Sum) → order p (t .pattern) ≡ Ordering·lt → order p (u .pattern) ≡ Ordering·lt → T (ahead p (settle o t u s after))
+unfolding settle ahead
 place-ahead p Ordering·lt t u s after h k = is-before (order p (t .pattern)) h
 place-ahead p Ordering·eq t u s after h k = is-before (order p (u .pattern)) k
 place-ahead p Ordering·gt t u s after h k = is-before (order p (u .pattern)) k
@@ -90,8 +90,8 @@ insert-ahead p t [] h k = is-before (order p (t .pattern)) h
 insert-ahead p t (u ∷ s) h k = place-ahead p (order (t .pattern) (u .pattern)) t u s (insert t s) h (before-is (order p (u .pattern)) k)
 
 place-order : (o : Ordering) (t u : Term) (s after : Sum) → order (t .pattern) (u .pattern) ≡ o → T (inOrder (u ∷ s)) → T (inOrder after)
-    → (order (u .pattern) (t .pattern) ≡ Ordering·lt → T (ahead (u .pattern) after)) → T (inOrder (place o t u s after))
-unfolding place ahead
+    → (order (u .pattern) (t .pattern) ≡ Ordering·lt → T (ahead (u .pattern) after)) → T (inOrder (settle o t u s after))
+unfolding settle ahead
 place-order Ordering·lt t u s after e h k f = order-cons t (u ∷ s) (is-before (order (t .pattern) (u .pattern)) e) h
 place-order Ordering·eq t u s after e h k f = order-cons (term _ (u .pattern)) s (order-head u s h) (order-tail u s h)
 place-order Ordering·gt t u s after e h k f = order-cons u after (f (order-back (t .pattern) (u .pattern) e)) k
@@ -166,7 +166,7 @@ collect-ordered n l h = whole n (collect l) (record { strict = collect-order l; 
 
 -- a list that is in order is gathered already, and an ordered sum collected already
 insert-front : (t : Term) (s : Sum) → T (ahead (t .pattern) s) → insert t s ≡ t ∷ s
-unfolding insert ahead place
+unfolding insert ahead settle
 insert-front t [] h = refl
 insert-front t (u ∷ s) h = rw (before-is (order (t .pattern) (u .pattern)) h)
 

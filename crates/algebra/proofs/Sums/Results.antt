@@ -10,8 +10,8 @@ use lib.IntN.{ℤ, pos, natAbs}
 use lib.ListN.{length, set, length-set, length-replicate}
 use Rattle.algebra.specs.Pattern.{Pattern, emptyPattern, degree, same, order}
 use Rattle.algebra.specs.Sum.{Term, term, Sum, isZero, ahead, inOrder, noZero, ordered, degreeOf, weight}
-use Rattle.algebra.specs.Collect.{place, insert, gather, keep, dropZeros, collect, occurs, countNew, spread}
-use Rattle.algebra.specs.Arithmetic.{integer, variable, unit, row, pairs, _⊕_, sumSpread, _⊗_, productSpread, power, powerSpread}
+use Rattle.algebra.specs.Collect.{settle, insert, gather, keep, dropZeros, collect, occurs, countNew, spread}
+use Rattle.algebra.specs.Arithmetic.{integer, variable, oneSum, row, pairs, _⊕_, sumSpread, _⊗_, productSpread, power, powerSpread}
 use Rattle.algebra.specs.Value.{total, onlyIf, coefficientIn, coefficient}
 use Rattle.algebra.proofs.Numbers.Absolute.{abs-add, abs-mul}
 use Rattle.algebra.proofs.Patterns.Laws.{times-length, times-degree, empty-degree}
@@ -24,11 +24,11 @@ use Rattle.algebra.proofs.Sums.Occurs.{collect-length}
 one-term : (n : ℕ) (c : ℤ) (p : Pattern) → T (noZero (term c p ∷ [])) → length p ≡ n → T (ordered n (term c p ∷ []))
 one-term n c p h k = whole n (term c p ∷ []) (record { strict = unfold inOrder ahead in tt; full = h; long = (k, tt) })
 
-pub unit-ordered : (n : ℕ) → T (ordered n (unit n))
+pub unit-ordered : (n : ℕ) → T (ordered n (oneSum n))
 unfolding noZero
 unit-ordered n = one-term n (pos 1) (emptyPattern n) tt (length-replicate n 0)
 
-pub unit-integer : (n : ℕ) → integer n (pos 1) ≡ unit n
+pub unit-integer : (n : ℕ) → integer n (pos 1) ≡ oneSum n
 unfolding integer collect gather insert dropZeros keep
 unit-integer n = refl
 
@@ -95,8 +95,8 @@ variable-degree n v = every-degree 1 (term (pos 1) (set (emptyPattern n) v 1) �
 -- ---- Weight.
 
 place-weight : (o : Ordering) (t u : Term) (s after : Sum) → weight after ≤ natAbs (t .coefficient) + weight s
-    → weight (place o t u s after) ≤ natAbs (t .coefficient) + (natAbs (u .coefficient) + weight s)
-unfolding place weight
+    → weight (settle o t u s after) ≤ natAbs (t .coefficient) + (natAbs (u .coefficient) + weight s)
+unfolding settle weight
 place-weight Ordering·lt t u s after h = omega arith
 place-weight Ordering·eq t u s after h = omega (arith, abs-add (t .coefficient) (u .coefficient))
 place-weight Ordering·gt t u s after h = omega arith

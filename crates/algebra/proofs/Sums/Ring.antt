@@ -3,14 +3,15 @@ use mathlib.Core.Path.{_≡_, refl, sym, _∙_, ap, ap₂}
 use mathlib.Core.List.{[], _∷_, _++_}
 use Prim.Native.Nat.{ℕ, zero, suc}
 use lib.Dec.{T}
-use lib.IntN.{ℤ, pos, _+ℤ_, _*ℤ_, +ℤ-comm, +ℤ-assoc, +ℤ-idr, *ℤ-comm, zero-*ℤ, *ℤ-zero}
+use lib.IntN.{ℤ, pos, negsuc, _+ℤ_, _*ℤ_, +ℤ-comm, +ℤ-assoc, +ℤ-idr, *ℤ-comm, zero-*ℤ, *ℤ-zero}
 use Rattle.algebra.specs.Pattern.{emptyPattern, times}
 use Rattle.algebra.specs.Sum.{Term, term, Sum, ordered}
-use Rattle.algebra.specs.Collect.{gather, dropZeros, collect}
-use Rattle.algebra.specs.Arithmetic.{unit, timesTerm, pairs, _⊕_, _⊗_, power}
+use Rattle.algebra.specs.Collect.{settle, insert, gather, keep, dropZeros, collect}
+use Rattle.algebra.specs.Arithmetic.{integer, oneSum, timesTerm, pairs, _⊕_, _⊗_, power}
 use Rattle.algebra.specs.Value.{total}
 use Rattle.algebra.proofs.Numbers.Whole.{*ℤ-assoc, *ℤ-+ℤ, +ℤ-*ℤ, one-*ℤ}
 use Rattle.algebra.proofs.Patterns.Laws.{times-comm, times-assoc, empty-times}
+use Rattle.algebra.proofs.Patterns.Order.{order-self}
 use Rattle.algebra.proofs.Sums.Total.{Additive, total-ext, total-append, total-plus, total-none, total-swap, pairs-total, collect-total}
 use Rattle.algebra.proofs.Sums.Every.{Every, Long}
 use Rattle.algebra.proofs.Sums.Ordered.{parts, collect-fixed}
@@ -68,8 +69,8 @@ module _ (f : Term → ℤ) (A : Additive f) where
   unit-pairs n [] h = refl
   unit-pairs n (t ∷ s) h = ap₂ _+ℤ_ (ap₂ (λ c p. f (term c p)) (one-*ℤ (t .coefficient)) (empty-times n (t .pattern) (h .0))) (unit-pairs n s (h .1))
 
-  unit-total : (n : ℕ) (s : Sum) → Every (Long n) s → total f (pairs (unit n) s) ≡ total f s
-  unit-total n s h = pairs-total f (unit n) s ∙ unfold total in +ℤ-idr (total (λ v. f (timesTerm (term (pos 1) (emptyPattern n)) v)) s) ∙ unit-pairs n s h
+  unit-total : (n : ℕ) (s : Sum) → Every (Long n) s → total f (pairs (oneSum n) s) ≡ total f s
+  unit-total n s h = pairs-total f (oneSum n) s ∙ unfold total in +ℤ-idr (total (λ v. f (timesTerm (term (pos 1) (emptyPattern n)) v)) s) ∙ unit-pairs n s h
 
 -- ---- The laws.
 
@@ -103,9 +104,21 @@ product-assoc s t u = unfold _⊗_ in collect-equal (pairs (collect (pairs s t))
 pub product-sum : (s t u : Sum) → s ⊗ (t ⊕ u) ≡ s ⊗ t ⊕ s ⊗ u
 product-sum s t u = unfold _⊗_ _⊕_ in collect-equal (pairs s (collect (t ++ u))) (collect (pairs s t) ++ collect (pairs s u)) (λ f A. unfold _⊗_ _⊕_ in over-total f A s t u)
 
-pub unit-product : (n : ℕ) (s : Sum) → T (ordered n s) → unit n ⊗ s ≡ s
+pub unit-product : (n : ℕ) (s : Sum) → T (ordered n s) → oneSum n ⊗ s ≡ s
 unfolding _⊗_
-unit-product n s h = collect-equal (pairs (unit n) s) s (λ f A. unit-total f A n s (parts n s h .long)) ∙ collect-fixed n s h
+unit-product n s h = collect-equal (pairs (oneSum n) s) s (λ f A. unit-total f A n s (parts n s h .long)) ∙ collect-fixed n s h
+
+-- 1 and -1 have the same pattern, and cancel
+ones : (n : ℕ) → oneSum n ⊕ integer n (negsuc 0) ≡ []
+unfolding _⊕_ integer collect gather insert settle dropZeros keep
+ones n = rw (order-self (emptyPattern n))
+
+-- -1 times a sum is its negative
+pub sum-negative : (n : ℕ) (s : Sum) → T (ordered n s) → s ⊕ integer n (negsuc 0) ⊗ s ≡ []
+sum-negative n s h =
+    let minus-one = integer n (negsuc 0) in
+    ap (λ u. u ⊕ minus-one ⊗ s) (sym (unit-product n s h)) ∙ ap₂ _⊕_ (product-comm (oneSum n) s) (product-comm minus-one s)
+    ∙ sym (product-sum s (oneSum n) minus-one) ∙ ap (λ u. s ⊗ u) (ones n) ∙ product-comm s [] ∙ zero-product s
 
 -- a power is repeated multiplication from 1 on
 pub power-suc : (n : ℕ) (s : Sum) (e : ℕ) → T (ordered n s) → power n s (suc e) ≡ power n s e ⊗ s

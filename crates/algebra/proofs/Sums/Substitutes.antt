@@ -10,7 +10,7 @@ use lib.ListN.{length, set, length-set}
 use Rattle.algebra.specs.Pattern.{Pattern, times, degree, exponent, without}
 use Rattle.algebra.specs.Sum.{term, Sum, ordered, degreeOf, weight}
 use Rattle.algebra.specs.Collect.{collect, spread}
-use Rattle.algebra.specs.Arithmetic.{unit, row, power}
+use Rattle.algebra.specs.Arithmetic.{oneSum, row, power}
 use Rattle.algebra.specs.Value.{total, patternValue, value}
 use Rattle.algebra.specs.Substitute.{rows, pairFactor, pairRows, substitute, pairDegree, pairWeight, pairSpread, Put, kept, put, others, putFactor, putAll, replacedFrom, replaced, onlyPut}
 use Rattle.algebra.proofs.Numbers.Whole.{*ℤ-assoc, one-*ℤ, *ℤ-oner, *ℤ-left-comm}
@@ -81,7 +81,7 @@ others-only (suc v) S (e ∷ p) = ap (λ q. e ∷ q) (others-only v S p)
 factor-only : (n v : ℕ) (S : Sum) (p : Pattern) → T (ordered n S) → pairFactor n v S p ≡ putFactor n (onlyPut v S) p
 unfolding putFactor onlyPut
 factor-only n zero S [] h = unfold power in refl
-factor-only n zero S (e ∷ p) h = sym (product-comm (power n S e) (unit n) ∙ unit-product n (power n S e) (power-ordered n S e h))
+factor-only n zero S (e ∷ p) h = sym (product-comm (power n S e) (oneSum n) ∙ unit-product n (power n S e) (power-ordered n S e h))
 factor-only n (suc v) S [] h = unfold power in refl
 factor-only n (suc v) S (e ∷ p) h = factor-only n v S p h
 

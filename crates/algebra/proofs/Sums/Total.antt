@@ -7,7 +7,7 @@ use Prim.Native.Nat.{zero, suc, Ordering, Ordering·lt, Ordering·eq, Ordering·
 use lib.IntN.{ℤ, pos, negsuc, _+ℤ_, _*ℤ_, +ℤ-assoc, +ℤ-idl, *ℤ-zero}
 use Rattle.algebra.specs.Pattern.{Pattern, order}
 use Rattle.algebra.specs.Sum.{Term, term, Sum, isZero}
-use Rattle.algebra.specs.Collect.{place, insert, gather, keep, dropZeros, collect}
+use Rattle.algebra.specs.Collect.{settle, insert, gather, keep, dropZeros, collect}
 use Rattle.algebra.specs.Arithmetic.{timesTerm, row, pairs}
 use Rattle.algebra.specs.Value.{total}
 use Rattle.algebra.proofs.Numbers.Whole.{*ℤ-+ℤ, +ℤ-left-comm, +ℤ-mix}
@@ -73,8 +73,8 @@ zero-is (negsuc n) h = cc
 
 module _ (f : Term → ℤ) (A : Additive f) where
   place-total : (o : Ordering) (t u : Term) (s after : Sum) → (o ≡ Ordering·eq → t .pattern ≡ u .pattern)
-      → total f after ≡ f t +ℤ total f s → total f (place o t u s after) ≡ f t +ℤ (f u +ℤ total f s)
-  unfolding total place
+      → total f after ≡ f t +ℤ total f s → total f (settle o t u s after) ≡ f t +ℤ (f u +ℤ total f s)
+  unfolding total settle
   place-total Ordering·lt t u s after h e = refl
   place-total Ordering·eq t u s after h e =
       ap (λ z. z +ℤ total f s) (A .plus (t .coefficient) (u .coefficient) (u .pattern) ∙ ap (λ p. f (term (t .coefficient) p) +ℤ f u) (sym (h refl)))

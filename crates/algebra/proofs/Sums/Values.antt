@@ -9,7 +9,7 @@ use lib.ListN.{getD, set}
 use Rattle.algebra.specs.Pattern.{Pattern, emptyPattern, times}
 use Rattle.algebra.specs.Sum.{Term, term, Sum}
 use Rattle.algebra.specs.Collect.{collect}
-use Rattle.algebra.specs.Arithmetic.{integer, variable, unit, timesTerm, row, pairs, _⊕_, _⊗_, power}
+use Rattle.algebra.specs.Arithmetic.{integer, variable, oneSum, timesTerm, row, pairs, _⊕_, _⊗_, power}
 use Rattle.algebra.specs.Value.{total, patternValue, termValue, value}
 use Rattle.algebra.proofs.Numbers.Whole.{*ℤ-assoc, +ℤ-*ℤ, one-*ℤ, *ℤ-oner, *ℤ-mix}
 use Rattle.algebra.proofs.Sums.Total.{Additive, total-ext, total-append, total-times, row-total, collect-total}
@@ -65,7 +65,7 @@ one-value (suc n) (suc v) (a ∷ x) h = one-*ℤ (patternValue (set (emptyPatter
 
 -- ---- Sums.
 
-pub unit-value : (n : ℕ) (x : List ℤ) → value (unit n) x ≡ pos 1
+pub unit-value : (n : ℕ) (x : List ℤ) → value (oneSum n) x ≡ pos 1
 unfolding value total
 unit-value n x = rw (empty-value n x)
 

@@ -6,8 +6,9 @@ use Rattle.numbers.proofs.Items.{number-answered}
 use Rattle.packed.specs.Inside.Held.{readCount}
 use Rattle.packed.proofs.TakeSum.{count-few}
 use Rattle.packed.proofs.Results.{count-refused, rest-refused, rest-taken}
-use Rattle.change.proofs.Sloped.{Refuses.no-room, refuses-slope}
-use Rattle.change.proofs.Given.{Given, given, first-held, slope-handed, slope-given}
+use Rattle.change.proofs.Sloped.{refuses-slope}
+use Rattle.change.specs.Promised.{SlopeRefuses.no-room}
+use Rattle.change.proofs.Given.{SumGiven, given, first-held, slope-handed, slope-given}
 use borrow.Author.Needs.{needs}
 use Rattle.change.proofs.slope.Statement.{statement}
 use Rattle.change.proofs.slope.Tie as tie
@@ -20,7 +21,7 @@ counted k = let r = k .before .before .before .read-count in number-answered (r 
 few : (d : tie.After-enum-told)
     → let r = d .before .before .before .before .take-whole .last in
     let k = d .before .before .before .before .before .before .before .before in
-    Given (k .before .before .before .before .before .before .before .args .bytes .now) (r .1 .1 .1 .0) (r .1 .1 .1 .1 .0) (k .before .first .given .0 .0)
+    SumGiven (k .before .before .before .before .before .before .before .args .bytes .now) (r .1 .1 .1 .0) (r .1 .1 .1 .1 .0) (k .before .first .given .0 .0)
 few d =
     let r = d .before .before .before .before .take-whole in
     let k = d .before .before .before .before .before .before .before .before in
@@ -29,7 +30,7 @@ few d =
 many : (d : tie.After-enum-told3)
     → let r = d .before .before .before .before .take-whole2 .last in
     let k = d .before .before .before .before .before .before .before .before in
-    Given (k .before .before .before .before .before .before .before .args .bytes .now) (r .1 .1 .1 .0) (r .1 .1 .1 .1 .0) (k .before .first .given .0 .0)
+    SumGiven (k .before .before .before .before .before .before .before .args .bytes .now) (r .1 .1 .1 .0) (r .1 .1 .1 .1 .0) (k .before .first .given .0 .0)
 many d =
     let r = d .before .before .before .before .take-whole2 in
     let k = d .before .before .before .before .before .before .before .before in

@@ -11,7 +11,7 @@ use Rattle.numbers.proofs.Items.{number-answered}
 use Rattle.packed.specs.Inside.Held.{readCount}
 use Rattle.packed.proofs.TakeSum.{count-few}
 use Rattle.packed.proofs.Results.{count-refused, rest-refused, rest-taken}
-use Rattle.change.proofs.Given.{first-valid, first-room, first-result, Given, given}
+use Rattle.change.proofs.Given.{first-valid, first-room, first-result, SumGiven, given}
 use Rattle.change.proofs.Answering.{Kept-list, kept-list, bad-sum, bad-list, can-apply, bad-pair, Made, made}
 use borrow.Author.Needs.{needs}
 use Rattle.change.proofs.substitute_list.Statement.{statement}
@@ -23,7 +23,7 @@ counted k = let r = k .before .before .before .read-count in number-answered (r 
 
 -- the sum that was given, in the first places of two arrays
 held : (d : tie.After-enum-told)
-    → let r = d .before .before .before .before .take-whole in Given (d .before .before .before .before .before .before .before .before .before .before .before .before .before .before .before .args .bytes .now) (r .last .1 .1 .1 .0) (r .last .1 .1 .1 .1 .0) (d .before .before .before .before .before .before .before .before .first .given .0 .0)
+    → let r = d .before .before .before .before .take-whole in SumGiven (d .before .before .before .before .before .before .before .before .before .before .before .before .before .before .before .args .bytes .now) (r .last .1 .1 .1 .0) (r .last .1 .1 .1 .1 .0) (d .before .before .before .before .before .before .before .before .first .given .0 .0)
 held d =
     let r = d .before .before .before .before .take-whole in
     let ws : List ℕ = replicate mostTerms 0 in

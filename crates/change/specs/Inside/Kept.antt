@@ -13,14 +13,14 @@ use Rattle.answers.specs.Judge.{Judged, Judged.good, Judged.fails}
 use Rattle.numbers.specs.Item.{Item, Item.got, Item.cut, Item.bad}
 use Rattle.sums.specs.Part.{part}
 use Rattle.sums.specs.Held.{HeldSum}
-use Rattle.change.specs.Pairs.{Pair, pair, Fault, Fault.ended, Fault.damaged, Fault.unknown, Listed, Listed.listed, Listed.faulty, refusalOf}
+use Rattle.change.specs.Pairs.{Pair, pair, ListFault, ListFault.ended, ListFault.damaged, ListFault.unknown, Listed, Listed.listed, Listed.faulty, refusalOf}
 use Rattle.change.specs.declared.lists.Fault as code
 use Rattle.change.specs.declared.lists.Fault.the-variants.{Ended, Damaged, Unknown}
 use Rattle.change.specs.declared.lists.Listed as answer
 use Rattle.change.specs.declared.lists.Listed.the-variants.{Pairs, Faulty}
 
 -- each case of the code's enums. Of a list that was read the code answers the number of pairs, and the place after them
-abbrev pub faultOf : code.Fault → Fault
+abbrev pub faultOf : code.Fault → ListFault
 faultOf Ended = ended
 faultOf Damaged = damaged
 faultOf Unknown = unknown

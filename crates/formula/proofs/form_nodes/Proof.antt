@@ -7,7 +7,7 @@ use lib.ListN.{length, take}
 use lib.Seq.{length-take-le}
 use borrow.Author.Needs.{needs}
 use Rattle.algebra.specs.Limits.{mostNodes}
-use Rattle.nodes.specs.Node.{kindOf, foundOf}
+use Rattle.nodes.specs.Inside.Code.{kindOf, foundOf}
 use Rattle.nodes.specs.Formal.{formalDegree, formalWeight}
 use Rattle.weights.specs.Capped.{capped}
 use Rattle.nodes.proofs.Reading.{read-held}

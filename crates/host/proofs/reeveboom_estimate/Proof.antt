@@ -2,11 +2,11 @@
 use mathlib.Core.Path.{ap}
 use native.Mathlib.Omega.{arith}
 use borrow.Author.Needs.{needs}
-use Rattle.router.specs.Estimate.{hostUnit}
 use Rattle.router.proofs.ForHost.{estimate-fits}
 use Rattle.host.proofs.Hearing.{number-hosted}
 use Rattle.host.proofs.reeveboom_estimate.Statement.{statement}
 use Rattle.host.proofs.reeveboom_estimate.Tie as tie
+use Rattle.answers.specs.Host.{narrowUnit}
 
 estimate-requires : tie.Need-estimate-requires
 estimate-requires c κs = search needs
@@ -19,7 +19,7 @@ same-length : tie.Need-same-length
 same-length c = search needs
 
 returns : tie.Need-returns
-returns c = number-hosted (c .before .before .before .estimate .ensures) hostUnit (c .for-host .ensures)
+returns c = number-hosted (c .before .before .before .estimate .ensures) narrowUnit (c .for-host .ensures)
 
 pub reeveboom-estimate-spec : {M : Type 1} → statement M
 reeveboom-estimate-spec = tie.close (tie.spec estimate-requires for-host-requires same-length returns)

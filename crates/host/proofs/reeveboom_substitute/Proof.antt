@@ -1,10 +1,10 @@
 -- `reeveboom_substitute` meets its contract: the result's length and every place fit below the unit, those in the list too.
 use borrow.Author.Needs.{needs}
-use Rattle.host.specs.Unit.{hostUnit}
 use Rattle.host.proofs.Hearing.{answer-fits, number-hosted}
 use Rattle.host.proofs.Fitting.{substitute-within}
 use Rattle.host.proofs.reeveboom_substitute.Statement.{statement}
 use Rattle.host.proofs.reeveboom_substitute.Tie as tie
+use Rattle.answers.specs.Host.{wideUnit}
 
 substitute-requires : tie.Need-substitute-requires
 substitute-requires c κs = search needs
@@ -22,7 +22,7 @@ same-length-3 : tie.Need-same-length-3
 same-length-3 c = search needs
 
 returns : tie.Need-returns
-returns c = number-hosted (c .before .before .before .before .before .before .substitute .ensures) hostUnit (c .for-host .ensures)
+returns c = number-hosted (c .before .before .before .before .before .before .substitute .ensures) wideUnit (c .for-host .ensures)
 
 pub reeveboom-substitute-spec : {M : Type 1} → statement M
 reeveboom-substitute-spec = tie.close (tie.spec substitute-requires for-host-requires same-length same-length-2 same-length-3 returns)

@@ -6,15 +6,15 @@ use lib.IntN.{pos}
 use lib.ListN.{replicate}
 use Rattle.algebra.specs.Limits.{variables, workPlaces}
 use Rattle.packed.specs.Packed.{mostBytes}
-use Rattle.packed.proofs.Working.{Room}
+use Rattle.packed.specs.Promised.{WorkRoom}
 use Rattle.listing.proofs.Widths.{refusal-width}
 use Rattle.listing.proofs.Answered.{Simple, simplified, not-simplified, listed-sum, listed-refusal, listed-as}
 use Rattle.listing.proofs.list_table.Statement.{statement}
 use Rattle.listing.proofs.list_table.Tie as tie
 
 -- its own areas are long enough
-room : Room (replicate workPlaces 0) (replicate workPlaces (pos 0)) (replicate (mostBytes variables) 0)
-room = record { words = search needs; coefficients = search needs; result = search needs }
+room : WorkRoom (replicate workPlaces 0) (replicate workPlaces (pos 0)) (replicate (mostBytes variables) 0)
+room = record { patterns-room = search needs; coefficients-room = search needs; result-room = search needs }
 
 slice-aggregate-simplify : tie.Need-slice-aggregate-simplify
 slice-aggregate-simplify c = search needs

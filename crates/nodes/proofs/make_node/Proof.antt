@@ -2,7 +2,8 @@
 use mathlib.Core.Path.{subst}
 use Prim.Native.Nat.{ℕ}
 use lib.Dec.{T}
-use Rattle.nodes.specs.Node.{kindOf, isNode}
+use Rattle.nodes.specs.Node.{isNode}
+use Rattle.nodes.specs.Inside.Code.{kindOf}
 use borrow.Author.Needs.{needs}
 use Rattle.nodes.proofs.make_node.Statement.{statement}
 use Rattle.nodes.proofs.make_node.Tie as tie

@@ -5,7 +5,8 @@ use native.Mathlib.Omega.{arith}
 use borrow.Author.Needs.{needs}
 use Rattle.answers.specs.Refusals.{SUM}
 use Rattle.answers.specs.Answers.{Told.refused, outcome}
-use Rattle.packed.proofs.Packing.{no-room, too-many, few-words, few-coefficients, Passed, bad-term, every-good, every-valid, has-room, all-written}
+use Rattle.packed.proofs.Packing.{no-room, too-many, few-words, few-coefficients, bad-term, every-good, every-valid, has-room, all-written}
+use Rattle.packed.specs.Promised.{PackFits}
 use Rattle.packed.proofs.pack.Statement.{statement}
 use Rattle.packed.proofs.pack.Tie as tie
 
@@ -23,7 +24,7 @@ returns-4 c = few-coefficients _ _ _ _ (c .before .before .before .if1 .left) (c
 
 -- the lengths and the count have passed their tests
 passed : (d : tie.Else4) → let args = d .before .before .before .before .before .before .args in
-    Passed (args .count) (args .patterns .now) (args .coefficients .now) (args .result .now)
+    PackFits (args .count) (args .patterns .now) (args .coefficients .now) (args .result .now)
 passed d = record {
   room = d .before .before .before .if1 .left;
   few = d .before .before .if2 .left;

@@ -2,8 +2,8 @@
 use mathlib.Core.Path.{_≡_, sym, ap}
 use borrow.Author.Needs.{needs}
 use Rattle.answers.specs.Refusals.{SUM}
-use Rattle.numbers.specs.Read.{itemOf}
-use Rattle.packed.specs.Whole.{fault}
+use Rattle.numbers.specs.Inside.Read.{itemOf}
+use Rattle.packed.specs.Inside.Held.{fault}
 use Rattle.numbers.specs.declared.Read.{Read}
 use Rattle.packed.proofs.refused.Statement.{statement}
 use Rattle.packed.proofs.refused.Tie as tie

@@ -1,11 +1,14 @@
 -- What the readers of terms leave in two arrays that are their callers' own.
 use mathlib.Core.Path.{_≡_}
-use mathlib.Core.List.{List, []}
+use mathlib.Core.List.{List, [], map}
 use Prim.Native.Nat.{ℕ, _<_}
 use lib.IntN.{ℤ, pos}
 use lib.ListN.{length, take}
 use Rattle.algebra.specs.Limits.{variables}
-use Rattle.algebra.specs.Sum.{Sum}
+use Rattle.algebra.specs.Pattern.{Pattern}
+use Rattle.algebra.specs.Sum.{Term, Sum}
+use Rattle.algebra.specs.Word.{word}
+use Rattle.algebra.specs.Inside.Filled.{filled}
 use Rattle.algebra.specs.Held.{wordsOf, coefficientsOf, firstTerms}
 use Rattle.answers.specs.Answers.{Told.done, Told.refused, Outcome, outcome}
 use Rattle.answers.specs.Areas.{written, cleared}
@@ -14,11 +17,18 @@ use Rattle.numbers.specs.Item.{Item, Item.got, Item.cut, Item.bad}
 use Rattle.packed.specs.ReadSum.{readTerms}
 use Rattle.packed.specs.Pack.{goodTerms}
 
+-- the word of a pattern of the first variables: the others have power 0
+abbrev pub wordFor : Pattern → ℕ
+wordFor p = word (filled variables p)
+
+abbrev pub wordsFor : Sum → List ℕ
+wordsFor s = map (λ (t : Term). wordFor (t .pattern)) s
+
 -- arrays that held ws₀ and cs₀ hold the sum, if one was read. Whatever was, only their first `count` places are other than before
 pub record Holds (count : ℕ) (item : Item Sum) (ws₀ : List ℕ) (cs₀ : List ℤ) (ws : List ℕ) (cs : List ℤ) : Type 0 where
   pub words-kept : ws ≡ written (take count ws) ws₀
   pub coefficients-kept : cs ≡ written (take count cs) cs₀
-  pub words-are : (s : Sum) (next : ℕ) → item ≡ got s next → ws ≡ written (wordsOf s) ws₀
+  pub words-are : (s : Sum) (next : ℕ) → item ≡ got s next → ws ≡ written (wordsFor s) ws₀
   pub coefficients-are : (s : Sum) (next : ℕ) → item ≡ got s next → cs ≡ written (coefficientsOf s) cs₀
 
 -- the number of terms, and the arrays with them; on a fault the first `count` places are cleared

@@ -7,6 +7,7 @@ use lib.ListN.{length}
 use Rattle.algebra.specs.Limits.{mostTerms}
 use Rattle.algebra.specs.Sum.{Sum}
 use Rattle.algebra.specs.Held.{wordsOf, coefficientsOf}
+use Rattle.answers.specs.Answers.{Told, Told.refused}
 use Rattle.answers.specs.Areas.{written}
 use Rattle.numbers.specs.Item.{Item, Item.got, Item.cut, Item.bad, andThen, provided}
 use Rattle.numbers.specs.Number.{readNumber}
@@ -29,3 +30,11 @@ unfoldable pub readInto : Item Sum → List ℕ → List ℤ → Item ℕ × Lis
 readInto (got s next) ws cs = (got (length s) next, written (wordsOf s) ws, written (coefficientsOf s) cs)
 readInto (cut place) ws cs = (cut place, ws, cs)
 readInto (bad place) ws cs = (bad place, ws, cs)
+
+-- ---- How a fault is refused.
+
+-- with this refusal, at its place (a value is no fault, and is not asked for)
+abbrev pub fault : {A : Type 0} → ℕ → Item A → Told
+fault refusal (got a next) = refused refusal next
+fault refusal (cut place) = refused refusal place
+fault refusal (bad place) = refused refusal place

@@ -10,7 +10,8 @@ use Rattle.numbers.proofs.Items.{number-answered}
 use Rattle.packed.specs.Inside.Held.{readCount}
 use Rattle.packed.proofs.TakeSum.{count-few}
 use Rattle.packed.proofs.Results.{Whole, count-refused, rest-refused, rest-taken}
-use Rattle.router.proofs.Estimating.{Refuses.no-room, refuses-estimate}
+use Rattle.router.proofs.Estimating.{refuses-estimate}
+use Rattle.router.specs.Promised.{EstimateRefuses.no-room}
 use Rattle.router.proofs.Handing.{estimate-handed, estimate-taken}
 use borrow.Author.Needs.{needs}
 use Rattle.router.proofs.estimate.Statement.{statement}

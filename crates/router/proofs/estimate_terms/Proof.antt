@@ -7,7 +7,8 @@ use Rattle.answers.specs.Answers.{Told.done, outcome}
 use Rattle.answers.specs.Areas.{written}
 use Rattle.router.specs.Estimate.{answerBytes, answerOf, judgeTerms}
 use Rattle.router.specs.Inside.Found.{foundOf}
-use Rattle.router.proofs.Estimating.{Long, terms-not-long, terms-negative, terms-given, range-margin, refused-leaves, done-leaves}
+use Rattle.router.proofs.Estimating.{terms-not-long, terms-negative, terms-given, range-margin, refused-leaves, done-leaves}
+use Rattle.router.specs.Promised.{RightLength}
 use Rattle.router.proofs.Answering.{stops, passes, are-given, not-within}
 use borrow.Author.Needs.{needs}
 use Rattle.router.proofs.estimate_terms.Statement.{statement}
@@ -38,7 +39,7 @@ before-negative-requires : tie.Need-before-negative-requires
 before-negative-requires c κs = search needs
 
 -- both lengths are right
-long : (d : tie.After-before-negative) → Long (d .before .before .before .before .before .before .before .before .before .before .before .before .before .before .args .readings .now) (d .before .before .before .before .before .before .before .before .before .before .before .before .before .before .args .tolerances .now)
+long : (d : tie.After-before-negative) → RightLength (d .before .before .before .before .before .before .before .before .before .before .before .before .before .before .args .readings .now) (d .before .before .before .before .before .before .before .before .before .before .before .before .before .before .args .tolerances .now)
 long d = record { readings-long = d .before .before .before .before .before .before .before .before .before .if1 .left; tolerances-long = d .before .before .before .before .before .before .before .before .if2 .left }
 
 returns-3 : tie.Need-returns-3

@@ -3,8 +3,7 @@ use mathlib.Core.Path.{_∙_, ap}
 use Prim.Native.Nat.{ℕ}
 use native.Mathlib.Omega.{arith}
 use borrow.Author.Needs.{needs}
-use Rattle.answers.specs.Host.{hosted}
-use Rattle.router.specs.Estimate.{hostUnit}
+use Rattle.answers.specs.Host.{hosted, narrowUnit}
 use Rattle.router.proofs.ForHost.{estimate-fits}
 use Rattle.router.proofs.reeveboom_estimate.Statement.{statement}
 use Rattle.router.proofs.reeveboom_estimate.Tie as tie
@@ -23,7 +22,7 @@ returns : tie.Need-returns
 returns c =
     let e = c .before .before .before .estimate in
     let area = e .last .1 .1 .1 .0 in
-    ap (λ (n : ℕ). (n, area)) (c .for-host .ensures) ∙ ap (hosted hostUnit) (e .ensures)
+    ap (λ (n : ℕ). (n, area)) (c .for-host .ensures) ∙ ap (hosted narrowUnit) (e .ensures)
 
 pub reeveboom-estimate-spec : {M : Type 1} → statement M
 reeveboom-estimate-spec =

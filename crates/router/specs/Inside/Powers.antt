@@ -14,14 +14,14 @@ abbrev pub stride : List ℕ → ℕ
 stride upper = length upper / variables
 
 -- at a place of both there is the power e of a raised reading b, and that of the reading a
-pub record Stands (b : ℕ) (a : ℤ) (e place : ℕ) (upper : List ℕ) (powers : List ℤ) : Type 0 where
+pub record PowerAt (b : ℕ) (a : ℤ) (e place : ℕ) (upper : List ℕ) (powers : List ℤ) : Type 0 where
   pub in-upper : place < length upper
   pub in-powers : place < length powers
   pub power : Holds (getD upper place 0) (getD powers place (pos 0)) (b ^ e) (pow a e)
 
 -- the powers from 1 up to `top`, from a place on
 abbrev pub Row : ℕ → ℤ → ℕ → ℕ → List ℕ → List ℤ → Type 0
-Row b a top start upper powers = (e : ℕ) → 0 < e → e ≤ top → Stands b a e (start + e) upper powers
+Row b a top start upper powers = (e : ℕ) → 0 < e → e ≤ top → PowerAt b a e (start + e) upper powers
 
 -- they were written there, and what stood up to that place has stayed
 pub record RowFrom (b : ℕ) (a : ℤ) (top start : ℕ) (upper₀ : List ℕ) (powers₀ : List ℤ) (upper : List ℕ) (powers : List ℤ) : Type 0 where

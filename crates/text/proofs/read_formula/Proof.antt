@@ -8,7 +8,7 @@ use Rattle.text.specs.Limits.{deepest, tablePlaces}
 use Rattle.text.specs.Reader.{readSum, inBrackets}
 use Rattle.text.proofs.Branches.{no-sum, more-left, all-read}
 use Rattle.text.proofs.Told.{Told, told, faults}
-use Rattle.text.proofs.Answering.{no-room, too-long, no-formula, too-many, all-done, Stands, stands}
+use Rattle.text.proofs.Answering.{no-room, too-long, no-formula, too-many, all-done, LaidOut, stands}
 use Rattle.text.proofs.read_formula.Statement.{statement}
 use Rattle.text.proofs.read_formula.Tie as tie
 
@@ -45,7 +45,7 @@ returns-4 c =
     too-many _ _ (d .before .before .before .if1 .left) (d .before .before .if2 .left) (all-read _ (s .is) (c .before .if3 .left)) (omega arith)
 
 -- all of it is a formula of few nodes
-laid : (c : tie.Else4) → let d = c .before .before in Stands (sum d .tree) (d .before .read2 .given .0 .1 .0) (d .before .before .before .read-sum .last .1 .1 .1 .0)
+laid : (c : tie.Else4) → let d = c .before .before in LaidOut (sum d .tree) (d .before .read2 .given .0 .1 .0) (d .before .before .before .read-sum .last .1 .1 .1 .0)
 laid c = stands _ _ _ (length-replicate tablePlaces (pos 0)) (sum (c .before .before) .part) (c .if4 .left)
 
 slice-aggregate-copy-coefficients : tie.Need-slice-aggregate-copy-coefficients

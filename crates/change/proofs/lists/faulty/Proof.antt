@@ -1,7 +1,7 @@
 -- `faulty` meets its contract: whatever the answer is, its place is kept.
 use mathlib.Core.Path.{_≡_, sym, ap}
 use borrow.Author.Needs.{needs}
-use Rattle.numbers.specs.Read.{itemOf}
+use Rattle.numbers.specs.Inside.Read.{itemOf}
 use Rattle.numbers.specs.declared.Read.{Read}
 use Rattle.change.specs.Inside.Kept.{itemFault}
 use Rattle.change.proofs.lists.faulty.Statement.{statement}

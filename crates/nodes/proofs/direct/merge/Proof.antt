@@ -11,7 +11,7 @@ use mir.Val.{SFits, ofZ, toZ}
 use mir.ValLaws.{toZ-ofZ}
 use Rattle.algebra.specs.Limits.{mostTerms}
 use Rattle.algebra.specs.Sum.{isZero}
-use Rattle.algebra.specs.Standing.{standing}
+use Rattle.algebra.specs.Inside.Standing.{standing}
 use Rattle.algebra.specs.Word.{exponents}
 use Rattle.nodes.specs.Inside.Direct.{nextStands}
 use Rattle.algebra.proofs.Numbers.Signed.{zero-bits, nonzero-bits}

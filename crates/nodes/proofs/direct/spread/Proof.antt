@@ -3,7 +3,7 @@ use mathlib.Core.Path.{sym, _∙_, ap}
 use Prim.Native.Nat.{_+_, _-_}
 use native.Mathlib.Omega.{arith}
 use borrow.Author.Needs.{needs}
-use Rattle.algebra.specs.Standing.{standing}
+use Rattle.algebra.specs.Inside.Standing.{standing}
 use Rattle.nodes.proofs.Counts.{Counts, begin, first-valid, second-valid, steps-first, steps-both, steps-second, finally}
 use Rattle.nodes.proofs.direct.spread.Statement.{statement}
 use Rattle.nodes.proofs.direct.spread.Tie as tie

@@ -6,7 +6,7 @@ use lib.Dec.{eqb}
 use borrow.Author.Needs.{needs}
 use borrow.Author.Tests.{eq-eqb, ne-eqb}
 use Rattle.algebra.specs.Sum.{isBefore}
-use Rattle.algebra.specs.Standing.{standing}
+use Rattle.algebra.specs.Inside.Standing.{standing}
 use Rattle.algebra.specs.declared.Standing.{Standing}
 use Rattle.packed.proofs.items.stands_after.Statement.{statement}
 use Rattle.packed.proofs.items.stands_after.Tie as tie

@@ -2,6 +2,7 @@
 use lib.ListN.{length}
 use Rattle.numbers.proofs.Items.{stopped, is-value}
 use Rattle.packed.proofs.Taking.{each-stops, each-taken}
+use Rattle.packed.proofs.TakeSum.{terms-all}
 use borrow.Author.Needs.{needs}
 use Rattle.packed.proofs.items.take_each.Statement.{statement}
 use Rattle.packed.proofs.items.take_each.Tie as tie
@@ -41,7 +42,7 @@ returns-2 : tie.Need-returns-2
 returns-2 c =
     let d = c .before in
     let r = d .before .before .before .before .take-terms in
-    each-taken _ (is-value (r .result) (d .match .keys1) .is) (r .ensures .0) (r .ensures .1)
+    each-taken _ (is-value (r .result) (d .match .keys1) .is) (r .ensures .0) (r .ensures .1) (λ s end e. terms-all _ _ _ s _ _ end e)
 
 pub take-each-spec : {M : Type 1} → statement M
 take-each-spec =

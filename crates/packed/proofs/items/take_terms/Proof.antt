@@ -7,7 +7,7 @@ use borrow.Author.Tests.{not-true, not-false}
 use Rattle.numbers.specs.Code.{code}
 use Rattle.numbers.proofs.Items.{From, Alike.both-bad, stopped, answered}
 use Rattle.packed.specs.ReadSum.{readCoefficient, readExponents}
-use Rattle.algebra.specs.Held.{wordFor}
+use Rattle.packed.specs.Inside.Arrays.{wordFor}
 use Rattle.packed.proofs.ReadItems.{number-is, size-is}
 use Rattle.packed.proofs.TakeTerms.{Takes, start, first-stops, rest-stops, heavier, valid, disorder, again, ended, refuses}
 use Rattle.packed.proofs.items.take_terms.Statement.{statement}

@@ -11,7 +11,7 @@ use mir.ValLaws.{toZ-ofZ}
 use Rattle.algebra.specs.Limits.{variables}
 use Rattle.algebra.specs.Word.{exponents}
 use Rattle.algebra.proofs.Patterns.Word.{exponents-length}
-use Rattle.router.specs.Inside.Powers.{stride, Stands}
+use Rattle.router.specs.Inside.Powers.{stride, PowerAt}
 use Rattle.router.proofs.TermParts.{Forming, start, sound, again, skipped, ended}
 use Rattle.router.proofs.valuing.tabled_term.Statement.{statement}
 use Rattle.router.proofs.valuing.tabled_term.Tie as tie
@@ -37,7 +37,7 @@ stands : (d : tie.Then1 Inv-loop μ-loop)
     → let args = d .before .before .before .before .before .before .before .args in
     let v = d .before .before .before .loop .v in
     let e = d .before .exponent .result in
-    Stands (getD (args .raised .now) v 0) (getD (args .readings .now) v (pos 0)) e (v * stride (args .upper .now) + e) (args .upper .now) (args .powers .now)
+    PowerAt (getD (args .raised .now) v 0) (getD (args .readings .now) v (pos 0)) e (v * stride (args .upper .now) + e) (args .upper .now) (args .powers .now)
 stands d =
     let first = d .before .before .before .before .before .before .before in
     first .pre .1 (d .before .before .before .loop .v) (d .before .before .loop-test .taken) (d .before .exponent .result) (d .if1 .taken) (omega (arith, d .before .exponent .ensures))

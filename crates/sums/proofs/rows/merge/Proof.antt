@@ -8,7 +8,7 @@ use lib.ListN.{getD}
 use mir.Syntax.{w64}
 use mir.Val.{SFits, ofZ, toZ}
 use mir.ValLaws.{toZ-ofZ}
-use Rattle.algebra.specs.Standing.{standing}
+use Rattle.algebra.specs.Inside.Standing.{standing}
 use Rattle.sums.proofs.Standing.{there-is}
 use Rattle.sums.proofs.Moving.{left-valid, value-fits}
 use Rattle.sums.proofs.Ranking.{Ranking, start, ended, next-fits, next-valid, new, sum-fits, known, passed}

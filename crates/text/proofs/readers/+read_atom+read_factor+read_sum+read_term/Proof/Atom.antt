@@ -13,7 +13,8 @@ use Rattle.algebra.specs.Limits.{variables}
 use Rattle.answers.specs.Judge.{andThen}
 use Rattle.text.specs.Limits.{largestNumber}
 use Rattle.text.specs.Signs.{openBracket, closeBracket, isDigit}
-use Rattle.text.specs.Letters.{Letter, letterIs}
+use Rattle.text.specs.Letters.{Letter}
+use Rattle.text.specs.Inside.Code.{letterIs}
 use Rattle.text.specs.Reader.{byteAt, readLetter, readAtom, readSum, inBrackets}
 use Rattle.text.proofs.Byte.{inside, letter-above, letter-variable}
 use Rattle.text.proofs.Digits.{Reaches, digits-reach}
