@@ -10,7 +10,6 @@ ghost use Rattle.nodes.specs.Node.{isIn, isNode, kindOf, foundOf, readNo
 ghost use Rattle.weights.specs.Capped.{capped};
 ghost use Rattle.nodes.specs.Formal.{formalDegree, formalWeight, EachAtMost};
 
-mod direct;
 pub mod work;
 
 // What a node is, with its own data. Children are named by their index.
