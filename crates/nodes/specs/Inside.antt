@@ -1,5 +1,4 @@
 -- What contracts of helpers and of private functions name, and no other: no promise of an operation rests on it.
 pub mod Work
-pub mod Direct
 pub mod Children
 pub mod Code

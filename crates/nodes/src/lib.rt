@@ -12,7 +12,6 @@ ghost use Rattle.weights.specs.Capped.{capped};
 ghost use Rattle.nodes.specs.Formal.{formalDegree, formalWeight};
 ghost use Rattle.nodes.specs.Inside.Children.{EachAtMost};
 
-mod direct;
 pub mod work;
 
 // What a node is, with its own data. Children are named by their index.

@@ -1,22 +1,25 @@
 // The sum of a node, formed of the sums of earlier nodes, in the work areas.
 use crate::Kind;
-use crate::direct;
 use algebra::MOST_TERMS;
 use answers::areas;
 use sums::Formed;
 ghost use mathlib.Core.Path.{_≡_};
-ghost use Prim.Native.Nat.{_+_, _*_, _≤_, _<_};
+ghost use Prim.Native.Nat.{_+_, _*_, _≤_};
 ghost use lib.ListN.{length, getD, take};
 ghost use Rattle.algebra.specs.Limits.{mostTerms};
 ghost use Rattle.answers.specs.Areas.{written};
+ghost use Rattle.sums.specs.Asked.{RoomOf};
 ghost use Rattle.sums.specs.Formed.{formedOf};
 ghost use Rattle.nodes.specs.Node.{Kind.sum, Kind.product, Kind.power};
 ghost use Rattle.nodes.specs.Inside.Code.{kindOf};
 ghost use Rattle.sums.specs.Part.{part};
-ghost use Rattle.nodes.specs.Inside.Work.{sumsAt, nodeFormed, Ready, FormedAt};
+ghost use Rattle.nodes.specs.Inside.Work.{sumsAt, nodeFormed, Ready, FormedAt, PutAt};
 
 // Where a few terms are copied.
 const FEW_TERMS: usize = 8;
+
+// Where a sum of a few is formed.
+const FEW_PLACES: usize = 16;
 
 // The n terms of an earlier node, copied to arrays: two parts of one area cannot be lent at once.
 fn copy_operand(
@@ -41,7 +44,65 @@ fn copy_operand(
     areas::copy_coefficients(sc, &coefficients[start..end], n);
 }
 
-// The sum of two earlier nodes, into the part of node i.
+// Terms that were formed elsewhere, into the part of node i.
+fn put_terms(
+    i: usize,
+    count: usize,
+    sp: &[u64],
+    sc: &[i64],
+    patterns: &mut [u64],
+    coefficients: &mut [i64],
+)
+    requires { ⌜ mostTerms * i + mostTerms ≤ length (now patterns) ⌝ }
+    requires { ⌜ mostTerms * i + mostTerms ≤ length (now coefficients) ⌝ }
+    requires { ⌜ count ≤ mostTerms ⌝ }
+    requires { ⌜ count ≤ length (now sp) ⌝ }
+    requires { ⌜ count ≤ length (now sc) ⌝ }
+    ensures { λ r. ⌜ PutAt i (take count (now (sp .entry))) (now (patterns .entry)) (now (patterns .exit)) ⌝ }
+    ensures { λ r. ⌜ PutAt i (take count (now (sc .entry))) (now (coefficients .entry)) (now (coefficients .exit)) ⌝ }
+{
+    let start = MOST_TERMS * i;
+    let end = start + MOST_TERMS;
+    areas::copy_words(&mut patterns[start..end], sp, count);
+    areas::copy_coefficients(&mut coefficients[start..end], sc, count);
+}
+
+// The sum of two earlier nodes, into the part of node i, by way of two arrays that have room for it. The operands are read where they stand, and as long as they are, no part of the areas can
+// be lent to be written.
+fn sum_by(
+    a: usize,
+    b: usize,
+    i: usize,
+    counts: &[usize],
+    sp: &mut [u64],
+    sc: &mut [i64],
+    patterns: &mut [u64],
+    coefficients: &mut [i64],
+) -> Formed
+    requires { ⌜ Ready i (now counts) (now patterns) (now coefficients) (sum a b) ⌝ }
+    requires { ⌜ RoomOf (getD (now counts) a 0 + getD (now counts) b 0) (now sp) (now sc) ⌝ }
+    ensures { λ r. ⌜ FormedAt i (nodeFormed (sumsAt i (now (counts .entry)) (now (patterns .entry)) (now (coefficients .entry))) (sum a b)) (formedOf r) (now (patterns .entry)) (now (coefficients .entry)) (now (patterns .exit)) (now (coefficients .exit)) ⌝ }
+{
+    let p = MOST_TERMS * a;
+    let q = MOST_TERMS * b;
+    let p_end = p + counts[a];
+    let q_end = q + counts[b];
+    let formed = sums::sum(
+        &patterns[p..p_end],
+        &coefficients[p..p_end],
+        &patterns[q..q_end],
+        &coefficients[q..q_end],
+        sp,
+        sc,
+    );
+    let Formed::Terms(count) = formed else {
+        return formed;
+    };
+    put_terms(i, count, sp, sc, patterns, coefficients);
+    formed
+}
+
+// The same, by way of small arrays if the operands have few terms together: to clear large ones would take longer than to add.
 fn form_sum(
     a: usize,
     b: usize,
@@ -53,13 +114,14 @@ fn form_sum(
     requires { ⌜ Ready i (now counts) (now patterns) (now coefficients) (sum a b) ⌝ }
     ensures { λ r. ⌜ FormedAt i (nodeFormed (sumsAt i (now (counts .entry)) (now (patterns .entry)) (now (coefficients .entry))) (sum a b)) (formedOf r) (now (patterns .entry)) (now (coefficients .entry)) (now (patterns .exit)) (now (coefficients .exit)) ⌝ }
 {
-    let n = counts[a];
-    let m = counts[b];
-    if !direct::fits(patterns, coefficients, a, n, b, m, i) {
-        return Formed::Over;
+    if counts[a] + counts[b] <= FEW_PLACES {
+        let mut sp = [0u64; FEW_PLACES];
+        let mut sc = [0i64; FEW_PLACES];
+        return sum_by(a, b, i, counts, &mut sp, &mut sc, patterns, coefficients);
     }
-    let count = direct::merge(patterns, coefficients, a, n, b, m, i);
-    Formed::Terms(count)
+    let mut sp = [0u64; MOST_TERMS];
+    let mut sc = [0i64; MOST_TERMS];
+    sum_by(a, b, i, counts, &mut sp, &mut sc, patterns, coefficients)
 }
 
 // The product of two earlier nodes, into the part of node i, by way of four arrays that have room for the operands.
@@ -98,8 +160,55 @@ fn product_by(
     )
 }
 
-// The same, by way of small arrays if both operands are small: to clear large ones would take longer than to form the product.
-fn copied_product(
+// The same, where the first of the two has few terms. Arrays are small for an operand with few terms: to clear large ones would take longer than to form the product.
+fn few_product(
+    a: usize,
+    b: usize,
+    i: usize,
+    counts: &[usize],
+    patterns: &mut [u64],
+    coefficients: &mut [i64],
+) -> Formed
+    requires { ⌜ Ready i (now counts) (now patterns) (now coefficients) (product a b) ⌝ }
+    requires { ⌜ getD (now counts) a 0 ≤ 8 ⌝ }
+    ensures { λ r. ⌜ FormedAt i (nodeFormed (sumsAt i (now (counts .entry)) (now (patterns .entry)) (now (coefficients .entry))) (product a b)) (formedOf r) (now (patterns .entry)) (now (coefficients .entry)) (now (patterns .exit)) (now (coefficients .exit)) ⌝ }
+{
+    let mut sp = [0u64; FEW_TERMS];
+    let mut sc = [0i64; FEW_TERMS];
+    if counts[b] <= FEW_TERMS {
+        let mut tp = [0u64; FEW_TERMS];
+        let mut tc = [0i64; FEW_TERMS];
+        return product_by(
+            a,
+            b,
+            i,
+            counts,
+            &mut sp,
+            &mut sc,
+            &mut tp,
+            &mut tc,
+            patterns,
+            coefficients,
+        );
+    }
+    let mut tp = [0u64; MOST_TERMS];
+    let mut tc = [0i64; MOST_TERMS];
+    product_by(
+        a,
+        b,
+        i,
+        counts,
+        &mut sp,
+        &mut sc,
+        &mut tp,
+        &mut tc,
+        patterns,
+        coefficients,
+    )
+}
+
+// The product of two earlier nodes, into the part of node i.
+fn form_product(
     a: usize,
     b: usize,
     i: usize,
@@ -111,24 +220,7 @@ fn copied_product(
     ensures { λ r. ⌜ FormedAt i (nodeFormed (sumsAt i (now (counts .entry)) (now (patterns .entry)) (now (coefficients .entry))) (product a b)) (formedOf r) (now (patterns .entry)) (now (coefficients .entry)) (now (patterns .exit)) (now (coefficients .exit)) ⌝ }
 {
     if counts[a] <= FEW_TERMS {
-        if counts[b] <= FEW_TERMS {
-            let mut sp = [0u64; FEW_TERMS];
-            let mut sc = [0i64; FEW_TERMS];
-            let mut tp = [0u64; FEW_TERMS];
-            let mut tc = [0i64; FEW_TERMS];
-            return product_by(
-                a,
-                b,
-                i,
-                counts,
-                &mut sp,
-                &mut sc,
-                &mut tp,
-                &mut tc,
-                patterns,
-                coefficients,
-            );
-        }
+        return few_product(a, b, i, counts, patterns, coefficients);
     }
     let mut sp = [0u64; MOST_TERMS];
     let mut sc = [0i64; MOST_TERMS];
@@ -146,31 +238,6 @@ fn copied_product(
         patterns,
         coefficients,
     )
-}
-
-// The product of two earlier nodes, into the part of node i. With an operand of one term nothing has to be copied.
-fn form_product(
-    a: usize,
-    b: usize,
-    i: usize,
-    counts: &[usize],
-    patterns: &mut [u64],
-    coefficients: &mut [i64],
-) -> Formed
-    requires { ⌜ Ready i (now counts) (now patterns) (now coefficients) (product a b) ⌝ }
-    ensures { λ r. ⌜ FormedAt i (nodeFormed (sumsAt i (now (counts .entry)) (now (patterns .entry)) (now (coefficients .entry))) (product a b)) (formedOf r) (now (patterns .entry)) (now (coefficients .entry)) (now (patterns .exit)) (now (coefficients .exit)) ⌝ }
-{
-    let n = counts[a];
-    let m = counts[b];
-    if n == 1 {
-        direct::multiply(patterns, coefficients, a, b, m, i);
-        return Formed::Terms(m);
-    }
-    if m == 1 {
-        direct::multiply(patterns, coefficients, b, a, n, i);
-        return Formed::Terms(n);
-    }
-    copied_product(a, b, i, counts, patterns, coefficients)
 }
 
 // A power, into the part of node i, by way of two arrays that have room for the base.

@@ -9,6 +9,12 @@ pub mod Single
 pub mod Fronts
 pub mod Standing
 pub mod Merging
+pub mod Heads
+pub mod Joining
+pub mod Nexts
+pub mod Counts
+pub mod Merges
+pub mod Summing
 pub mod Closing
 pub mod Backwards
 pub mod Moving

@@ -1,18 +1,29 @@
--- What the functions that form a sum ask: room for any sum, and that no degree becomes too high and no coefficient too large.
+-- What the functions that form a sum ask: room for it, and that no degree becomes too high and no coefficient too large.
 use mathlib.Core.List.{List}
-use Prim.Native.Nat.{ℕ, _+_, _*_, _^_, _≤_}
+use Prim.Native.Nat.{ℕ, _+_, _*_, _^_, _≤_, min}
 use lib.Dec.{T}
 use lib.IntN.{ℤ}
 use lib.ListN.{length}
 use Rattle.algebra.specs.Limits.{largestDegree, mostTerms, largestWeight}
 use Rattle.algebra.specs.Sum.{noZero, degreeOf, weight}
 use Rattle.algebra.specs.Word.{terms}
-use Rattle.sums.specs.Held.{Held}
+use Rattle.sums.specs.Held.{Held, HeldSum}
 
--- the two areas
+-- the two areas have room for any sum
 pub record Room (ws : List ℕ) (cs : List ℤ) : Type 0 where
   pub words : mostTerms ≤ length ws
   pub coefficients : mostTerms ≤ length cs
+
+-- and for the sum of two that have so many terms together: it has no more of them, and no more than 128
+pub record RoomOf (many : ℕ) (ws : List ℕ) (cs : List ℤ) : Type 0 where
+  pub words : min many mostTerms ≤ length ws
+  pub coefficients : min many mostTerms ≤ length cs
+
+-- two sums that can be added
+pub record Addends (sp : List ℕ) (sc : List ℤ) (tp : List ℕ) (tc : List ℤ) : Type 0 where
+  pub first : HeldSum sp sc
+  pub second : HeldSum tp tc
+  pub light : weight (terms sp sc) + weight (terms tp tc) ≤ largestWeight
 
 -- two sums that can be multiplied
 pub record Factors (sp : List ℕ) (sc : List ℤ) (tp : List ℕ) (tc : List ℤ) : Type 0 where

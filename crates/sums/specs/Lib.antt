@@ -2,5 +2,6 @@ pub mod Held
 pub mod Formed
 pub mod Asked
 pub mod Rows
+pub mod Adding
 pub mod Binomial
 pub mod Part

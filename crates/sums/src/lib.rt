@@ -1,21 +1,22 @@
 // Sums in slices: the word of each pattern in one, the coefficients in the other. `sp` and `sc` hold the sum s, `tp` and `tc` the sum t; what is
 // formed is written to the first places of two areas, patterns and coefficients.
-// Begin with specs/Asked.antt and specs/Formed.antt, then with `product` and `power`; `rows` merges a row of products into a running sum.
+// Begin with specs/Asked.antt and specs/Formed.antt, then with `sum`, `product` and `power`; `rows` merges a row of products into a running sum.
 use algebra::MOST_TERMS;
 use algebra::Pattern;
 use answers::areas;
 ghost use mathlib.Core.Path.{_≡_};
-ghost use Prim.Native.Nat.{_≤_, _<_};
+ghost use Prim.Native.Nat.{_+_, _≤_, _<_};
 ghost use lib.ListN.{length};
 ghost use Rattle.algebra.specs.Limits.{variables};
 ghost use Rattle.algebra.specs.Sum.{term};
 ghost use Rattle.algebra.specs.Collect.{dropZeros};
 ghost use Rattle.algebra.specs.Arithmetic.{integer, variable, row};
 ghost use Rattle.algebra.specs.Word.{exponents, terms};
-ghost use Rattle.sums.specs.Asked.{Room, Factors, Base};
-ghost use Rattle.sums.specs.Formed.{formedOf, Formed.formed, productOf, powerOf, formedInto};
+ghost use Rattle.sums.specs.Asked.{Room, RoomOf, Addends, Factors, Base};
+ghost use Rattle.sums.specs.Formed.{formedOf, Formed.formed, sumOf, productOf, powerOf, formedInto};
 ghost use Rattle.sums.specs.Rows.{HasTerm, RoomFor};
 
+mod adding;
 mod binomial;
 mod monomial;
 pub mod rows;
@@ -63,7 +64,29 @@ pub fn variable(v: u64, patterns: &mut [u64], coefficients: &mut [i64]) -> Forme
     Formed::Terms(1)
 }
 
-// ---- Sums formed of others. The running sum stands in arrays of its own: the areas are written when nothing can be refused any more.
+// ---- Two sums added.
+
+// The sum. Nothing is written where the spread is above 128: so it is judged before the terms are merged.
+pub fn sum(
+    sp: &[u64],
+    sc: &[i64],
+    tp: &[u64],
+    tc: &[i64],
+    patterns: &mut [u64],
+    coefficients: &mut [i64],
+) -> Formed
+    requires { ⌜ Addends (now sp) (now sc) (now tp) (now tc) ⌝ }
+    requires { ⌜ RoomOf (length (now sp) + length (now tp)) (now patterns) (now coefficients) ⌝ }
+    ensures { λ r. ⌜ (formedOf r, now (patterns .exit), now (coefficients .exit)) ≡ formedInto (sumOf (terms (now (sp .entry)) (now (sc .entry))) (terms (now (tp .entry)) (now (tc .entry)))) (now (patterns .entry)) (now (coefficients .entry)) ⌝ }
+{
+    if !adding::fits(sp, sc, tp, tc) {
+        return Formed::Over;
+    }
+    let count = adding::merge(sp, sc, tp, tc, patterns, coefficients);
+    Formed::Terms(count)
+}
+
+// ---- Products and powers. The running sum stands in arrays of its own: the areas are written when nothing can be refused any more.
 
 // The product by one term needs no running sum: patterns that differ still do, and stay in order.
 fn multiply_by_term(

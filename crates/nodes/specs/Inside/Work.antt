@@ -8,6 +8,7 @@ use lib.ListN.{length, getD, take, drop}
 use Rattle.algebra.specs.Limits.{largestDegree, mostTerms, largestWeight, mostNodes, workPlaces}
 use Rattle.algebra.specs.Sum.{Sum, degreeOf, weight}
 use Rattle.algebra.specs.Held.{firstTerms}
+use Rattle.answers.specs.Areas.{written}
 use Rattle.sums.specs.Held.{HeldSum}
 use Rattle.sums.specs.Formed.{Formed, within, formedInto}
 use Rattle.sums.specs.Part.{part}
@@ -50,3 +51,9 @@ pub record FormedAt (i : ℕ) (f : Formed Sum) (answer : Formed ℕ) (ws : List 
   pub words-after : drop (mostTerms * suc i) ws' ≡ drop (mostTerms * suc i) ws
   pub coefficients-before : take (mostTerms * i) cs' ≡ take (mostTerms * i) cs
   pub coefficients-after : drop (mostTerms * suc i) cs' ≡ drop (mostTerms * suc i) cs
+
+-- values were written to the first places of the part of node i, in one of the areas
+pub record PutAt {A : Type 0} (i : ℕ) (values : List A) (area : List A) (area' : List A) : Type 0 where
+  pub in-part : part i area' ≡ written values (part i area)
+  pub before : take (mostTerms * i) area' ≡ take (mostTerms * i) area
+  pub after : drop (mostTerms * suc i) area' ≡ drop (mostTerms * suc i) area

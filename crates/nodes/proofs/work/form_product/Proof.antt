@@ -1,26 +1,22 @@
--- `form_product` meets its contract: an operand of one term is multiplied where it stands.
-use mathlib.Core.Path.{refl, sym}
+-- `form_product` meets its contract: in both cases the arrays have room for the operands.
+use Prim.Native.Nat.{_<_}
 use native.Mathlib.Omega.{arith}
+use Rattle.nodes.proofs.Formally.{two-children}
 use borrow.Author.Needs.{needs}
-use Rattle.nodes.proofs.Straight.{factors-there, first-asked, first-formed, second-asked, second-formed}
-use Rattle.nodes.proofs.Working.{renamed}
 use Rattle.nodes.proofs.work.form_product.Statement.{statement}
 use Rattle.nodes.proofs.work.form_product.Tie as tie
 
-mul-n : tie.Need-mul-n
-mul-n c = let h = factors-there (c .before .before .pre) in search needs
+children : (c : tie.Start) → (c .args .a < c .args .i) × (c .args .b < c .args .i)
+children c = two-children (c .args .i) _ _ (c .pre .is-node)
 
-shared-slice-read-n : tie.Need-shared-slice-read-n
-shared-slice-read-n c = let h = factors-there (c .before .before .before .pre) in omega (arith, c .before .before .before .pre .counted)
+mul-if1 : tie.Need-mul-if1
+mul-if1 c = let h = children (c .before .before) in search needs
 
-mul-m : tie.Need-mul-m
-mul-m c = let h = factors-there (c .before .before .before .pre) in search needs
+shared-slice-read-if1 : tie.Need-shared-slice-read-if1
+shared-slice-read-if1 c = let h = children (c .before .before .before) in omega (arith, c .before .before .before .pre .counted)
 
-shared-slice-read-m : tie.Need-shared-slice-read-m
-shared-slice-read-m c = let h = factors-there (c .before .before .before .before .pre) in omega (arith, c .before .before .before .before .pre .counted)
-
-multiply-requires : tie.Need-multiply-requires
-multiply-requires c κs = let m = first-asked (c .before .before .before .before .before .before .before .pre) (sym (c .before .before .if1 .taken)) refl in (m .place, (m .first, (m .second, (m .low, m .light))))
+few-product-requires : tie.Need-few-product-requires
+few-product-requires c κs = search needs
 
 same-length : tie.Need-same-length
 same-length c = search needs
@@ -29,10 +25,22 @@ same-length-2 : tie.Need-same-length-2
 same-length-2 c = search needs
 
 returns : tie.Need-returns
-returns c = renamed (first-formed (c .before .before .before .before .before .before .before .before .before .before .before .pre) (sym (c .before .before .before .before .before .before .if1 .taken)) refl) (c .before .before .before .multiply .ensures)
+returns c = search needs
 
-multiply-requires-2 : tie.Need-multiply-requires-2
-multiply-requires-2 c κs = let m = second-asked (c .before .before .before .before .before .before .before .before .pre) refl (sym (c .before .before .if2 .taken)) in (m .place, (m .first, (m .second, (m .low, m .light))))
+slice-aggregate-product-by : tie.Need-slice-aggregate-product-by
+slice-aggregate-product-by c = search needs
+
+slice-aggregate-product-by-2 : tie.Need-slice-aggregate-product-by-2
+slice-aggregate-product-by-2 c = search needs
+
+slice-aggregate-product-by-3 : tie.Need-slice-aggregate-product-by-3
+slice-aggregate-product-by-3 c = search needs
+
+slice-aggregate-product-by-4 : tie.Need-slice-aggregate-product-by-4
+slice-aggregate-product-by-4 c = search needs
+
+product-by-requires : tie.Need-product-by-requires
+product-by-requires c κs = let s = (c .before .before .before .before .before .before .before .before .before .before) in let h = children s in let first = s .pre .keeps .few _ (h .0) in let second = s .pre .keeps .few _ (h .1) in (s .pre, (first, (first, (second, second))))
 
 same-length-3 : tie.Need-same-length-3
 same-length-3 c = search needs
@@ -41,37 +49,23 @@ same-length-4 : tie.Need-same-length-4
 same-length-4 c = search needs
 
 returns-2 : tie.Need-returns-2
-returns-2 c = renamed (second-formed (c .before .before .before .before .before .before .before .before .before .before .before .before .pre) refl (sym (c .before .before .before .before .before .before .if2 .taken))) (c .before .before .before .multiply2 .ensures)
-
-copied-product-requires : tie.Need-copied-product-requires
-copied-product-requires c κs = search needs
-
-same-length-5 : tie.Need-same-length-5
-same-length-5 c = search needs
-
-same-length-6 : tie.Need-same-length-6
-same-length-6 c = search needs
-
-returns-3 : tie.Need-returns-3
-returns-3 c = search needs
+returns-2 c = search needs
 
 pub form-product-spec : {M : Type 1} → statement M
 form-product-spec =
     tie.close
     (tie.spec
-    mul-n
-    shared-slice-read-n
-    mul-m
-    shared-slice-read-m
-    multiply-requires
+    mul-if1
+    shared-slice-read-if1
+    few-product-requires
     same-length
     same-length-2
     returns
-    multiply-requires-2
+    slice-aggregate-product-by
+    slice-aggregate-product-by-2
+    slice-aggregate-product-by-3
+    slice-aggregate-product-by-4
+    product-by-requires
     same-length-3
     same-length-4
-    returns-2
-    copied-product-requires
-    same-length-5
-    same-length-6
-    returns-3)
+    returns-2)

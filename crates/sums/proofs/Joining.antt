@@ -2,74 +2,22 @@
 use mathlib.Core.Path.{_≡_, refl, sym, _∙_, ap, ap₂, subst}
 use mathlib.Core.Bool.{Bool, true, false}
 use mathlib.Core.List.{[], _∷_, _++_, append-nil}
-use Prim.Native.Nat.{ℕ, zero, suc, _+_, _≤_, _<_, Ordering, Ordering·lt, Ordering·eq, Ordering·gt}
+use Prim.Native.Nat.{ℕ, zero, suc, _+_, _≤_, _<_, Ordering·lt, Ordering·eq, Ordering·gt}
 use native.Mathlib.Omega.{arith}
 use native.Mathlib.Numerals.{add-one}
 use native.Mathlib.Decide.{decLt}
-use borrow.Author.Tests.{ne-eqb}
-use lib.Dec.{T, eqb, eqb-refl}
+use lib.Dec.{T}
 use lib.IntN.{_+ℤ_}
 use lib.ListN.{length, getD, drop, length-append, drop-of-length-le}
 use lib.Seq.{drop-cons, append-snoc}
 use Rattle.algebra.specs.Pattern.{Pattern, order}
-use Rattle.algebra.specs.Sum.{Term, term, Sum, isZero, isBefore, ahead, inOrder, noZero}
+use Rattle.algebra.specs.Sum.{Term, term, Sum, isZero, ahead, inOrder, noZero}
 use Rattle.algebra.specs.Collect.{keep, gather, dropZeros, collect, spread}
 use Rattle.algebra.specs.Arithmetic.{_⊕_, sumSpread}
-use lib.Ieee.Bits.{is-true, is-false}
+use lib.Ieee.Bits.{is-false}
 use Rattle.algebra.proofs.Sums.Ordered.{is-before, order-back, order-tail, full-head, full-tail}
 use Rattle.sums.proofs.Merging.{none}
-use Rattle.nodes.specs.Inside.Direct.{nextStands}
-use Rattle.nodes.proofs.Heads.{sum-first, spread-first, sum-second, spread-second, sum-both, spread-both}
-
--- ---- Which term is next.
-
-module _ (x n y m : ℕ) (p q : Pattern) where
-  pub stands-first : y ≡ m → nextStands x n y m p q ≡ Ordering·lt
-  stands-first e = rw e (rw (is-true (eqb m m) (eqb-refl m)) refl)
-
-  pub stands-second : (y ≡ m → ⊥) → x ≡ n → nextStands x n y m p q ≡ Ordering·gt
-  stands-second f e = rw (ne-eqb y m f) (rw e (rw (is-true (eqb n n) (eqb-refl n)) refl))
-
-  pub stands-ordered : (y ≡ m → ⊥) → (x ≡ n → ⊥) → nextStands x n y m p q ≡ order p q
-  stands-ordered f g = rw (ne-eqb y m f) (rw (ne-eqb x n g) refl)
-
-module _ (x n y m : ℕ) (p q : Pattern) (left : x + y < n + m) (inside : x ≤ n) (inside' : y ≤ m) where
-  -- where both have terms left, it is decided by the order
-  both-left : x < n → y < m → nextStands x n y m p q ≡ order p q
-  both-left h k = stands-ordered x n y m p q (λ e. omega arith) (λ e. omega arith)
-
-  first-left : m ≤ y → nextStands x n y m p q ≡ Ordering·lt
-  first-left h = stands-first x n y m p q (omega arith)
-
-  second-left : n ≤ x → nextStands x n y m p q ≡ Ordering·gt
-  second-left h = stands-second x n y m p q (λ e. omega arith) (omega arith)
-
-  pub next-first : nextStands x n y m p q ≡ Ordering·lt → (x < n) × (y < m → order p q ≡ Ordering·lt)
-  next-first e = go (decLt x n)
-    where
-      go : Dec (x < n) → (x < n) × (y < m → order p q ≡ Ordering·lt)
-      go (yes h) = (h, λ k. sym (both-left h k) ∙ e)
-      go (no h) = absurd (subst (λ o. T (isBefore o)) (sym e ∙ second-left (omega arith)) tt)
-
-  pub next-second : nextStands x n y m p q ≡ Ordering·gt → (y < m) × (x < n → order p q ≡ Ordering·gt)
-  next-second e = go (decLt y m)
-    where
-      go : Dec (y < m) → (y < m) × (x < n → order p q ≡ Ordering·gt)
-      go (yes k) = (k, λ h. sym (both-left h k) ∙ e)
-      go (no k) = absurd (subst (λ o. T (isBefore o)) (sym (first-left (omega arith)) ∙ e) tt)
-
-  pub next-both : nextStands x n y m p q ≡ Ordering·eq → ((x < n) × (y < m)) × (order p q ≡ Ordering·eq)
-  next-both e = go (decLt x n) (decLt y m)
-    where
-      go : Dec (x < n) → Dec (y < m) → ((x < n) × (y < m)) × (order p q ≡ Ordering·eq)
-      go (yes h) (yes k) = ((h, k), sym (both-left h k) ∙ e)
-      go (yes h) (no k) = absurd (subst (λ o. T (isBefore o)) (sym (first-left (omega arith)) ∙ e) tt)
-      go (no h) d = absurd (subst (λ o. T (isAfter o)) (sym (second-left (omega arith)) ∙ e) tt)
-        where
-          isAfter : Ordering → Bool
-          isAfter Ordering·lt = false
-          isAfter Ordering·eq = false
-          isAfter Ordering·gt = true
+use Rattle.sums.proofs.Heads.{sum-first, spread-first, sum-second, spread-second, sum-both, spread-both}
 
 -- ---- What is left of a sum.
 

@@ -1,41 +1,33 @@
 -- `spread` meets its contract: the loop keeps `Counts`.
 use mathlib.Core.Path.{sym, _∙_, ap}
 use Prim.Native.Nat.{_+_, _-_}
-use native.Mathlib.Omega.{arith}
-use borrow.Author.Needs.{needs}
 use Rattle.algebra.specs.Inside.Standing.{standing}
-use Rattle.nodes.proofs.Counts.{Counts, begin, first-valid, second-valid, steps-first, steps-both, steps-second, finally}
-use Rattle.nodes.proofs.direct.spread.Statement.{statement}
-use Rattle.nodes.proofs.direct.spread.Tie as tie
+use Rattle.sums.proofs.Holding.{each-valid}
+use Rattle.sums.proofs.Counts.{Counts, begin, steps-first, steps-both, steps-second, finally}
+use borrow.Author.Needs.{needs}
+use Rattle.sums.proofs.adding.spread.Statement.{statement}
+use Rattle.sums.proofs.adding.spread.Tie as tie
 
 abbrev Inv-loop : tie.InvT-loop
-Inv-loop patterns coefficients a n b m i p q x₀ y₀ count₀ x y count = Counts patterns coefficients i a n b m x y count
+Inv-loop sp sc tp tc all x₀ y₀ count₀ x y count = Counts sp sc tp tc x y count
 
 abbrev μ-loop : tie.MeasureT-loop
-μ-loop patterns coefficients a n b m i p q x₀ y₀ count₀ x y count = n + m - (x + y)
+μ-loop sp sc tp tc all x₀ y₀ count₀ x y count = all - (x + y)
 
-mul-p : tie.Need-mul-p Inv-loop μ-loop
-mul-p c = search needs
-
-mul-q : tie.Need-mul-q Inv-loop μ-loop
-mul-q c = search needs
+add-all : tie.Need-add-all Inv-loop μ-loop
+add-all c = search needs
 
 loop-holds : tie.Need-loop-holds Inv-loop μ-loop
-loop-holds c = let pre = c .before .pre in begin (pre .0) (pre .1 .0) (pre .1 .1)
+loop-holds c = let pre = c .before .before .pre in begin (pre .0) (pre .1)
 
 add-loop : tie.Need-add-loop Inv-loop μ-loop
 add-loop c = search needs
-
-add-loop-2 : tie.Need-add-loop-2 Inv-loop μ-loop
-add-loop-2 c = search needs
 
 add-count : tie.Need-add-count Inv-loop μ-loop
 add-count c = search needs
 
 stands-requires : tie.Need-stands-requires Inv-loop μ-loop
-stands-requires c κs =
-    let l = c .before .loop .inv in
-    (l .first-inside, (l .second-inside, (omega (arith, l .first-there .before, l .first-there .words, l .first-few), (omega (arith, l .second-there .before, l .second-there .words, l .second-few), (λ h. first-valid l h, λ h. second-valid l h)))))
+stands-requires c κs = let l = c .before .loop .inv in (each-valid (l .first), (each-valid (l .second), (l .first-inside, l .second-inside)))
 
 enum-told : tie.Need-enum-told Inv-loop μ-loop
 enum-told c = search needs
@@ -85,11 +77,9 @@ spread-spec =
     (tie.spec
     Inv-loop
     μ-loop
-    mul-p
-    mul-q
+    add-all
     loop-holds
     add-loop
-    add-loop-2
     add-count
     stands-requires
     enum-told
