@@ -117,12 +117,12 @@ module _ {sp : List ℕ} {sc : List ℤ} {tp : List ℕ} {tc : List ℤ} {ws₀ 
   fewer-done : {x' y' : ℕ} (w : Term) → Joining s t x' y' (l .done ++ (w ∷ [])) → k < sumSpread s t
   fewer-done w j = omega (arith, bounded j, length-append (l .done) (w ∷ []), l .many, sum-length s t)
 
-  puts : {x' y' : ℕ} (w : Term) → Joining s t x' y' (l .done ++ (w ∷ [])) → {word : ℕ} {c : ℤ} → word ≡ word (w .pattern) → c ≡ w .coefficient
-      → Merges sp sc tp tc ws₀ cs₀ (set ws k word) (set cs k c) x' y' (k + 1)
-  puts w j {word} {c} word-is is =
+  puts : {x' y' : ℕ} (w : Term) → Joining s t x' y' (l .done ++ (w ∷ [])) → {v : ℕ} {c : ℤ} → v ≡ word (w .pattern) → c ≡ w .coefficient
+      → Merges sp sc tp tc ws₀ cs₀ (set ws k v) (set cs k c) x' y' (k + 1)
+  puts w j {v} {c} word-is is =
       let f = fewer-done w j in
       on (l .done ++ (w ∷ [])) j
-      (stored-next (l .stored) w k word c (l .many) (omega (arith, l .words-room, l .stored .same-words)) (omega (arith, l .coefficients-room, l .stored .same-coefficients)) word-is is)
+      (stored-next (l .stored) w k v c (l .many) (omega (arith, l .words-room, l .stored .same-words)) (omega (arith, l .coefficients-room, l .stored .same-coefficients)) word-is is)
       (length-append (l .done) (w ∷ []) ∙ ap (λ (z : ℕ). z + 1) (l .many))
 
   module _ (left : x + y < length sp + length tp) where

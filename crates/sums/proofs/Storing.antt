@@ -34,9 +34,9 @@ next {A = A} f s t area₀ area k v are many room is =
 pub stored-next : {ws₀ : List ℕ} {cs₀ : List ℤ} {s : Sum} {ws : List ℕ} {cs : List ℤ} → Stored ws₀ cs₀ s ws cs
     → (t : Term) (k w : ℕ) (c : ℤ) → length s ≡ k → k < length ws₀ → k < length cs₀ → w ≡ word (t .pattern) → c ≡ t .coefficient
     → Stored ws₀ cs₀ (s ++ (t ∷ [])) (set ws k w) (set cs k c)
-stored-next {ws₀} {cs₀} {s} {ws} {cs} d t k w c many words-room coefficients-room word coefficient = record {
-  words-are = next (λ (u : Term). word (u .pattern)) s t ws₀ ws k w (d .words-are) many words-room word;
-  coefficients-are = next (λ (u : Term). u .coefficient) s t cs₀ cs k c (d .coefficients-are) many coefficients-room coefficient;
+stored-next {ws₀} {cs₀} {s} {ws} {cs} d t k w c many words-room coefficients-room word-is coefficient-is = record {
+  words-are = next (λ (u : Term). word (u .pattern)) s t ws₀ ws k w (d .words-are) many words-room word-is;
+  coefficients-are = next (λ (u : Term). u .coefficient) s t cs₀ cs k c (d .coefficients-are) many coefficients-room coefficient-is;
   same-words = length-set ws k w ∙ d .same-words;
   same-coefficients = length-set cs k c ∙ d .same-coefficients;
 }
