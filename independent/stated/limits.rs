@@ -96,6 +96,11 @@ fn substitutions(all: &mut Statements) {
     all.substitute_refused(why, &high, &typed_list(&[('a', "2147483649*c")]), WEIGHT, 0);
     all.substitute(why, &high, &typed_list(&[('a', "2147483648*c")]), "4611686018427387904*c^2");
     all.substitute_refused(why, &packed_of("a^2+1"), &typed_list(&[('a', "2147483648*c")]), WEIGHT, 0);
+    let why = "the degree of a pair: the other exponents and k times the degree of S";
+    let product = packed_of("a^2*b^30+h");
+    all.substitute(why, &product, &typed_list(&[('a', "c^15-1")]), "b^30*c^30-2*b^30*c^15+b^30+h");
+    all.substitute_refused(why, &product, &typed_list(&[('a', "c^16")]), DEGREE, 0);
+    all.substitute(why, &product, &typed_list(&[('h', "c^60")]), "c^60+a^2*b^30");
     let why = "no pairs";
     all.substitute(why, &ab, &[0], "a*b");
     all.substitute_refused(why, &ab, &[], LIST, 0);
@@ -188,9 +193,15 @@ fn readings(all: &mut Statements) {
         tolerances[7] = -32_768;
         all.estimate_refused(why, &estimate_case(&a, &[], &tolerances), READING, index);
     }
-    for (first, second) in [(15, 16), (16, 15), (17, 16), (16, 17), (0, 16), (16, 0), (0, 0), (18, 18)] {
-        let case = Case::Estimate { sum: a.clone(), readings: vec![1; first], tolerances: vec![0xff; second], answer: 16 };
-        all.estimate_refused(why, &case, READING, 0);
+    for (first, second) in [(15, 16), (16, 15), (17, 16), (16, 17), (0, 16), (16, 0), (0, 0), (18, 18), (32, 32)] {
+        // No negative tolerance; then all of them; then the fourth, whose place would be 3.
+        let mut fourth = vec![0; 32];
+        fourth[7] = 0x80;
+        fourth.truncate(second);
+        for tolerances in [vec![0; second], vec![0xff; second], fourth] {
+            let case = Case::Estimate { sum: a.clone(), readings: vec![1; first], tolerances, answer: 16 };
+            all.estimate_refused(why, &case, READING, 0);
+        }
     }
     let case = Case::Estimate { sum: vec![0x81, 1], readings: vec![], tolerances: vec![0xff; 16], answer: 16 };
     all.estimate_refused("SUM before READING", &case, SUM, 0);
