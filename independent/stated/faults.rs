@@ -191,7 +191,8 @@ fn pack_words(all: &mut Statements) {
             all.case(why, &case(over << (8 * letter)), &format!("refused {SUM} 0 stay"));
         }
     }
-    for word in [0x8080_8080_8080_8080, 0x4040_4040_0000_0000, 0xff00_0000_0000_0001, 0x7f80_0000_0000_0000, 0x0808_0808_0808_0805] {
+    let far = [0x8080_8080_8080_8080, 0x4040_4040_0000_0000, 0xff00_0000_0000_0001, 0x7f80_0000_0000_0000];
+    for word in far.into_iter().chain([0x0808_0808_0808_0805]) {
         all.case(why, &case(word), &format!("refused {SUM} 0 stay"));
     }
     all.done_bytes(why, &case(0x0808_0808_0808_0804), &as_written("a^8*b^8*c^8*d^8*e^8*f^8*g^8*h^4"), "stay");
