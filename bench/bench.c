@@ -123,10 +123,10 @@ static void fail(const char *what, const char *which) {
 /* A typed formula as a packed sum. */
 static size_t packed(const char *text, uint8_t *result) {
     uint64_t nodes = reeveboom_text((const uint8_t *)text, strlen(text), lent.table, REEVEBOOM_TABLE_PLACES);
-    if (reeveboom_wide_refusal(nodes)) fail("no formula", text);
+    if (reeveboom_refusal(nodes)) fail("no formula", text);
     uint64_t length = reeveboom_simplify(lent.table, 3 * nodes, result, REEVEBOOM_RESULT_BYTES, lent.work_patterns, REEVEBOOM_WORK_PLACES,
                                          lent.work_coefficients, REEVEBOOM_WORK_PLACES);
-    if (reeveboom_wide_refusal(length)) fail("refused", text);
+    if (reeveboom_refusal(length)) fail("refused", text);
     return (size_t)length;
 }
 
@@ -225,7 +225,7 @@ static void measure(int operation, Row *row) {
     double times[CONTESTANTS][ROUNDS];
     long calls[CONTESTANTS];
     uint64_t number = compare(operation);
-    row->refusal = operation == ESTIMATE ? reeveboom_refusal(number) : reeveboom_wide_refusal(number);
+    row->refusal = reeveboom_refusal(number);
     for (int c = 0; c < CONTESTANTS; c++) calls[c] = calibrate(contestants[c].batches[operation]);
     for (int round = 0; round < ROUNDS; round++) {
         for (int turn = 0; turn < CONTESTANTS; turn++) {

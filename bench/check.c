@@ -334,10 +334,10 @@ static bool make_related(void) {
     if (once_in(2)) put_mirrored();
     else put_wide();
     uint64_t nodes = reeveboom_text(in.bytes, in.bytes_length, a.table, REEVEBOOM_TABLE_PLACES);
-    if (reeveboom_wide_refusal(nodes)) return false;
+    if (reeveboom_refusal(nodes)) return false;
     uint64_t length = reeveboom_simplify(a.table, 3 * nodes, in.bytes, sizeof in.bytes, a.patterns, REEVEBOOM_WORK_PLACES, a.coefficients, REEVEBOOM_WORK_PLACES);
     in.bytes_length = (size_t)length;
-    return reeveboom_wide_refusal(length) == 0;
+    return reeveboom_refusal(length) == 0;
 }
 
 /* Makes coefficients small, so that powers of the sum are within the limits. */

@@ -1,4 +1,4 @@
-/* Reeveboom, for hosts written in C (x86-64, System V calls).
+/* Reeveboom, for hosts written in C or C++ on x86-64 (System V calls) and aarch64 (AAPCS64), 64 bits only.
  *
  * Link one of two static libraries, and never both, since both have reeveboom_estimate:
  * - libhost.a has every function that is declared here;
@@ -7,11 +7,13 @@
  * Rules for the caller of any function here:
  * - A slice is a pointer and a length, which counts elements and not bytes. The pointer is aligned for its elements and never null, not even where the length
  *   is 0. As many elements as the length says (at most PTRDIFF_MAX bytes) can be read there, and written too where the pointer is not to const.
- * - An area that is written to overlaps no other slice, and nobody else touches any of them during the call.
+ * - An area that is written to overlaps no other slice, and nobody else touches any of them during the call. So a result is not written over the sum that it is
+ *   made from, however tempting that is for a slope or a substitution: take two areas, and swap them from call to call. Slices that are only read may
+ *   overlap each other, or be the same.
  * What the elements are is free, and so is every length: whatever is wrong with them is told by the number that comes back.
  *
- * The functions keep nothing and allocate nothing, and call nothing but memcpy, memmove and memset; so several threads may call them at once, each with areas
- * of its own.
+ * The functions keep nothing and allocate nothing, and call nothing but memcpy, memmove and memset, which the host has to have; so several threads may call them
+ * at once, each with areas of its own. What they need of the stack is said with the sizes of the areas.
  */
 #ifndef REEVEBOOM_H
 #define REEVEBOOM_H
@@ -19,18 +21,47 @@
 #include <stddef.h>
 #include <stdint.h>
 
+/* Version four of the tool. The first number goes up by 1 with an answer, a layout of bytes or a declaration that is no longer as it was, the second with what is added
+ * beside them. As one number, for #if: 100 x the first + the second. */
+#define REEVEBOOM_VERSION_MAJOR 4
+#define REEVEBOOM_VERSION_MINOR 0
+#define REEVEBOOM_VERSION (100 * REEVEBOOM_VERSION_MAJOR + REEVEBOOM_VERSION_MINOR)
+
+/* The library takes lengths of 64 bits. Where size_t is shorter this does not compile; before C11 and C++11 that is an array of -1 places. */
+#if defined(__cplusplus) && __cplusplus >= 201103L
+static_assert(sizeof(size_t) == 8, "Reeveboom is for machines of 64 bits");
+#elif !defined(__cplusplus) && defined(__STDC_VERSION__) && __STDC_VERSION__ >= 201112L
+_Static_assert(sizeof(size_t) == 8, "Reeveboom is for machines of 64 bits");
+#else
+typedef char reeveboom_is_for_machines_of_64_bits[sizeof(size_t) == 8 ? 1 : -1];
+#endif
+
 #ifdef __cplusplus
 extern "C" {
 #endif
 
-/* How long areas must be at least (readings and tolerances: exactly). A longer area is fine: its further places stay as they are. */
+/* ---- Memory.
+ *
+ * How long areas must be at least (readings and tolerances: exactly). A longer area is fine: its further places stay as they are. */
 enum {
-    REEVEBOOM_TABLE_PLACES = 192,  /* a formula table, where a text is read into it */
-    REEVEBOOM_TERM_PLACES = 128,   /* patterns and coefficients, where a sum is unpacked into them */
-    REEVEBOOM_WORK_PLACES = 8192,  /* patterns and coefficients, where they are work areas */
-    REEVEBOOM_RESULT_BYTES = 2306, /* a packed result */
+    REEVEBOOM_TABLE_PLACES = 192,  /* a formula table, where a text is read into it: 1.5 KiB */
+    REEVEBOOM_TERM_PLACES = 128,   /* patterns and coefficients, where a sum is unpacked into them: 1 KiB each */
+    REEVEBOOM_WORK_PLACES = 8192,  /* patterns and coefficients, where they are work areas: 64 KiB each, so 128 KiB for both */
+    REEVEBOOM_RESULT_BYTES = 2306, /* a packed result: 2.3 KiB */
     REEVEBOOM_READING_BYTES = 16,
     REEVEBOOM_ANSWER_BYTES = 16
+};
+
+/* How many bytes of the stack a call takes at most, with its arguments and the way back. They are measured and not proved: on the compiled library, with inputs that
+ * reach the deep paths, and rounded up well, since another machine or compiler takes some bytes more. tests/stack.c fails where a call takes more than this. */
+enum {
+    REEVEBOOM_TEXT_STACK = 12 * 1024,
+    REEVEBOOM_SIMPLIFY_STACK = 32 * 1024,
+    REEVEBOOM_UNPACK_STACK = 4 * 1024,
+    REEVEBOOM_PACK_STACK = 512,
+    REEVEBOOM_SLOPE_STACK = 4 * 1024,
+    REEVEBOOM_SUBSTITUTE_STACK = 32 * 1024,
+    REEVEBOOM_ESTIMATE_STACK = 16 * 1024
 };
 
 /* The refusals. Each comes with a place, which is 0 where nothing else is said. */
@@ -52,17 +83,63 @@ enum {
 
 /* ---- What comes back.
  *
- * Done, a function returns the number that is said with it. Refused, the estimate returns refusal x 65536 + place, and every other function refusal x 2^32 + place.
- * On refusal tables, patterns and coefficients that were to hold a sum, results and answers stay as they were.
+ * Done, a function returns the number that is said with it, which is below 2^16. Refused, the estimate returns refusal x 2^16 + place, which is below 2^20, and every
+ * other function refusal x 2^32 + place. On refusal tables, patterns and coefficients that were to hold a sum, results and answers stay as they were.
+ *
+ * So one pair of functions takes the number of any of them apart.
  */
 
-/* The two parts of the estimate's number: the refusal (0 when it is done), and its place. */
-static inline unsigned reeveboom_refusal(uint64_t number) { return (unsigned)(number >> 16); }
-static inline unsigned reeveboom_place(uint64_t number) { return (unsigned)(number & 65535u); }
+/* The refusal: 0 when it is done. */
+static inline unsigned reeveboom_refusal(uint64_t number) {
+    return (unsigned)(number >> 32 != 0 ? number >> 32 : number >> 16);
+}
 
-/* The same of every other function's number. Done, the place is the number itself. */
-static inline unsigned reeveboom_wide_refusal(uint64_t number) { return (unsigned)(number >> 32); }
-static inline uint32_t reeveboom_wide_place(uint64_t number) { return (uint32_t)(number & 4294967295u); }
+/* The place of the refusal. Done, it is the number itself. */
+static inline uint32_t reeveboom_place(uint64_t number) {
+    return (uint32_t)(number >> 32 != 0 ? number & 4294967295u : number & 65535u);
+}
+
+/* A refusal's name, as it is spelled above; "DONE" for 0, and "UNKNOWN" for a number that is none. */
+static inline const char *reeveboom_refusal_name(unsigned refusal) {
+    switch (refusal) {
+    case 0: return "DONE";
+    case REEVEBOOM_ROOM: return "ROOM";
+    case REEVEBOOM_SHAPE: return "SHAPE";
+    case REEVEBOOM_NODE: return "NODE";
+    case REEVEBOOM_DEGREE: return "DEGREE";
+    case REEVEBOOM_WEIGHT: return "WEIGHT";
+    case REEVEBOOM_SPREAD: return "SPREAD";
+    case REEVEBOOM_SUM: return "SUM";
+    case REEVEBOOM_LIST: return "LIST";
+    case REEVEBOOM_VARIABLE: return "VARIABLE";
+    case REEVEBOOM_READING: return "READING";
+    case REEVEBOOM_RANGE: return "RANGE";
+    case REEVEBOOM_TEXT: return "TEXT";
+    case REEVEBOOM_NODES: return "NODES";
+    default: return "UNKNOWN";
+    }
+}
+
+/* What it says, and what its place is: a sentence to print, without a capital and a full stop. */
+static inline const char *reeveboom_refusal_sentence(unsigned refusal) {
+    switch (refusal) {
+    case 0: return "it is done";
+    case REEVEBOOM_ROOM: return "an area that is written to is too short";
+    case REEVEBOOM_SHAPE: return "the table's length is not 3 x (1 to 64), or there are more terms to pack than 128 or than an area has places";
+    case REEVEBOOM_NODE: return "a node of the table breaks its rules; the place is the node";
+    case REEVEBOOM_DEGREE: return "a degree is above 60; the place is the node of the table, or the pair of the list";
+    case REEVEBOOM_WEIGHT: return "a weight is above 2^62; the place is the node of the table, or the pair of the list";
+    case REEVEBOOM_SPREAD: return "there are more than 128 different patterns; the place is the node of the table, or the pair of the list";
+    case REEVEBOOM_SUM: return "the packed sum is at fault; the place is the byte, or the term where terms are packed";
+    case REEVEBOOM_LIST: return "the list is at fault; the place is the byte";
+    case REEVEBOOM_VARIABLE: return "there is no such variable; in a list the place is the byte of its number";
+    case REEVEBOOM_READING: return "readings or tolerances are not 16 bytes, or a tolerance is negative; the place is its variable, 0 for a";
+    case REEVEBOOM_RANGE: return "the raised value is above 2^62, so there is no estimate";
+    case REEVEBOOM_TEXT: return "the text is no formula; the place is how many of its bytes some formula begins with, or 1024 if it is longer than that";
+    case REEVEBOOM_NODES: return "the text needs more than 64 nodes";
+    default: return "there is no such refusal";
+    }
+}
 
 /* ---- Typed formulas and tables. */
 
@@ -153,7 +230,7 @@ uint64_t reeveboom_substitute(const uint8_t *sum, size_t sum_length,
  * answer:     16 bytes or more. Done, the first 16 become the estimate and then the margin, eight bytes each, two's complement, low byte first,
  *             and the rest stay. On refusal all stay.
  *
- * Returns 16. Refusals, as refusal x 65536 + place: ROOM, SUM, READING, RANGE.
+ * Returns 16. Refusals, as refusal x 2^16 + place: ROOM, SUM, READING, RANGE.
  */
 uint64_t reeveboom_estimate(const uint8_t *sum, size_t sum_length,
                             const uint8_t *readings, size_t readings_length,

@@ -1,5 +1,5 @@
-//! The estimate of 01 with its margin. The margin is READINGS D11: all signs dropped, the value at the raised readings
-//! less the value at the plain ones. A raised reading is |reading| + tolerance.
+//! The estimate of 01 with its margin. The margin is what docs/DECISIONS.md takes: all signs dropped, the value at the
+//! raised readings less the value at the plain ones. A raised reading is |reading| + tolerance.
 
 use crate::packed::read_sum;
 use crate::refusals::{refuse, Answer, Refused, RANGE, READING, ROOM};

@@ -1,5 +1,6 @@
 //! A second, independent program for 01 of Reeveboom: answers the case lines of REPLAY.md, makes cases, and compares.
-//! It was written from the words of 01, READINGS, REPLAY and VECTORS only.
+//! It was written from the words of 01 and its source documents, of the open points that docs/DECISIONS.md lists, and of
+//! docs/REPLAY.md; no crate was looked at.
 
 // `linked` is only set by the command line of the library build.
 #![allow(unexpected_cfgs)]

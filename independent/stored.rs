@@ -9,7 +9,7 @@ use crate::stated;
 use std::collections::HashSet;
 
 const SEED: u64 = 20_010_000;
-const COUNT: usize = 3_600;
+const COUNT: usize = 4_000;
 /// Long lines are kept rare: only every so many of the seeded ones may be longer than this.
 const USUAL_LINE: usize = 800;
 const LONG_EVERY: usize = 12;

@@ -33,12 +33,22 @@ static void check(int holds, const char *what) {
 static void number_is(uint64_t got, uint64_t wanted) {
     check(got == wanted, "the number");
     if (got != wanted) printf("      %" PRIu64 ", and not %" PRIu64 "\n", got, wanted);
+    /* done, there is no refusal, and the place is the number */
+    if (wanted < 65536u) check(reeveboom_refusal(got) == 0 && reeveboom_place(got) == got, "the parts of a number that is returned");
 }
 
-/* A refusal, as every function but the estimate tells it. */
-static uint64_t at(unsigned refusal, uint32_t place) { return ((uint64_t)refusal << 32) + place; }
+/* Every number that a case asks for is taken apart again. */
+static uint64_t taken_apart(uint64_t number, unsigned refusal, uint32_t place) {
+    check(reeveboom_refusal(number) == refusal, "the refusal of a number");
+    check(reeveboom_place(number) == place, "the place of a number");
+    return number;
+}
 
-static int is_refusal(uint64_t number) { return reeveboom_wide_refusal(number) != 0; }
+/* A refusal, as every function but the estimate tells it, and as the estimate does. */
+static uint64_t at(unsigned refusal, uint32_t place) { return taken_apart(((uint64_t)refusal << 32) + place, refusal, place); }
+static uint64_t estimate_at(unsigned refusal, uint32_t place) { return taken_apart((uint64_t)refusal * 65536u + place, refusal, place); }
+
+static int is_refusal(uint64_t number) { return reeveboom_refusal(number) != 0; }
 
 /* ---- Slices. Every place of an area that is lent holds a mark before. */
 
@@ -200,6 +210,38 @@ static Bytes with(Bytes b, unsigned byte) {
 
 /* (a+b)^2-b^2, which is a^2 + 2ab */
 static Bytes square(void) { return two_terms(2, 2, 0, 4, 1, 1); }
+
+/* The bits of a number. */
+static unsigned bits_of(unsigned n) { return n == 0 ? 0 : (n & 1u) + bits_of(n >> 1); }
+
+/* 2^55 times a to the given power times (1+b)(1+c)..(1+h): 128 terms, each coefficient in nine groups, and a weight of 2^62. No accepted sum takes more bytes. (The
+ * 2306 of a result area are a bound for terms of 18 bytes, and only 2^62 itself, which leaves room for no other term, has a coefficient of ten groups.) */
+static Bytes longest(unsigned a_power) {
+    Bytes b = BYTES(128, 1);
+    for (unsigned degree = 8; degree-- > 0;) {
+        for (unsigned letters = 128; letters-- > 0;) {
+            if (bits_of(letters) != degree) continue;
+            for (int i = 0; i < 8; i++) add(&b, 128);
+            add(&b, 1);
+            add(&b, a_power);
+            for (int v = 6; v >= 0; v--) add(&b, letters >> v & 1u);
+        }
+    }
+    return b;
+}
+
+enum { LONGEST_BYTES = 2 + 128 * 17 };
+
+/* 2306 bytes, as many as 128 terms of 18 would take: the first coefficient is 2^62, and the second one is too much. */
+static Bytes too_heavy(void) {
+    Bytes b = BYTES(128, 1);
+    for (unsigned i = 0; i < 128; i++) {
+        for (int k = 0; k < 9; k++) add(&b, 128);
+        add(&b, 1);
+        for (int v = 0; v < 8; v++) add(&b, 0);
+    }
+    return b;
+}
 
 /* A list that puts one sum for one variable. */
 static Bytes put_for(unsigned variable, Bytes sum) {
@@ -428,9 +470,7 @@ static void estimate_gives(Bytes sum, Bytes readings, Bytes tolerances, int64_t 
 }
 
 static void estimate_refuses(Bytes sum, Bytes readings, Bytes tolerances, unsigned refusal, unsigned place) {
-    uint64_t wanted = (uint64_t)refusal * 65536u + place;
-    check(reeveboom_refusal(wanted) == refusal && reeveboom_place(wanted) == place, "the parts of the number");
-    estimate_in(sum, readings, tolerances, REEVEBOOM_ANSWER_BYTES, wanted, 0, 0);
+    estimate_in(sum, readings, tolerances, REEVEBOOM_ANSWER_BYTES, estimate_at(refusal, place), 0, 0);
 }
 
 /* ---- The cases. */
@@ -656,6 +696,8 @@ static void lists(void) {
     substitute_in(none(), none(), 0, 0, 0, at(REEVEBOOM_ROOM, 0), NULL);
 }
 
+static int64_t power(int64_t base, int exponent) { return exponent == 0 ? 1 : base * power(base, exponent - 1); }
+
 static void estimates(void) {
     Bytes a_squared = one_term(2, 2, 0), large = sum_of("4294967296*a^2"), larger = sum_of("4294967296*a^2+1"), third = measured(0, 0), last = measured(0, 0);
     const int64_t largest = 4611686018427387904, plain = (int64_t)4294967296 * 32767 * 32767;
@@ -670,6 +712,12 @@ static void estimates(void) {
     estimate_gives(a_squared, measured(-3, 0), measured(1, 0), 9, 7);
     estimate_gives(large, measured(32767, 0), measured(1, 0), plain, largest - plain);
     estimate_gives(BYTES(0), measured(-32768, 0), measured(32767, 0), 0, 0);
+    about = "estimate: high powers, many terms, and values below 0";
+    estimate_gives(sum_of("-3*a^8*b^9"), measured(-2, 1), measured(1, 0), -768, 3 * power(3, 8) - 768);
+    estimate_gives(sum_of("(a+b)^20"), measured(2, 1), measured(1, 0), power(3, 20), power(4, 20) - power(3, 20));
+    estimate_gives(sum_of("(a-b)^20"), measured(1, 3), measured(1, 2), power(2, 20), power(7, 20) - power(4, 20));
+    estimate_gives(sum_of("(a-b)^21"), measured(1, 3), measured(1, 2), -power(2, 21), power(7, 21) - power(4, 21));
+    estimate_gives(sum_of("(a-b)^60"), measured(1, 0), measured(0, 1), 1, power(2, 60) - 1);
     about = "estimate: refusals";
     estimate_refuses(larger, measured(32767, 0), measured(1, 0), REEVEBOOM_RANGE, 0);
     estimate_refuses(with(square(), 0), none(), none(), REEVEBOOM_SUM, 19);
@@ -678,8 +726,8 @@ static void estimates(void) {
     estimate_refuses(square(), measured(0, 0), none(), REEVEBOOM_READING, 0);
     estimate_refuses(square(), measured(0, 0), third, REEVEBOOM_READING, 2);
     estimate_refuses(square(), measured(0, 0), last, REEVEBOOM_READING, 7);
-    estimate_in(square(), measured(10, 3), measured(1, 2), REEVEBOOM_ANSWER_BYTES - 1, (uint64_t)REEVEBOOM_ROOM * 65536u, 0, 0);
-    estimate_in(none(), none(), none(), 0, (uint64_t)REEVEBOOM_ROOM * 65536u, 0, 0);
+    estimate_in(square(), measured(10, 3), measured(1, 2), REEVEBOOM_ANSWER_BYTES - 1, estimate_at(REEVEBOOM_ROOM, 0), 0, 0);
+    estimate_in(none(), none(), none(), 0, estimate_at(REEVEBOOM_ROOM, 0), 0, 0);
 }
 
 /* The scope's main case, one operation after another. */
@@ -694,11 +742,135 @@ static void one_after_another(void) {
     estimate_gives(sum, measured(10, 3), measured(1, 2), 160, 71);
 }
 
-/* A number is taken apart as it was put together. */
-static void parts(void) {
-    about = "the parts of a number";
-    check(reeveboom_wide_refusal(at(REEVEBOOM_TEXT, 1024)) == REEVEBOOM_TEXT && reeveboom_wide_place(at(REEVEBOOM_TEXT, 1024)) == 1024, "a refusal");
-    check(reeveboom_wide_refusal(2306) == 0 && reeveboom_wide_place(2306) == 2306, "a number that is returned");
+/* The largest sum, in every operation. */
+static void largest_sums(void) {
+    static const char text[] = "36028797018963968*a*(1+b)*(1+c)*(1+d)*(1+e)*(1+f)*(1+g)*(1+h)";
+    Bytes sum = longest(1), slope_by_a = longest(0), heavy = too_heavy(), ones = none(), minus_a, list;
+
+    for (int v = 0; v < 8; v++) {
+        add(&ones, 1);
+        add(&ones, 0);
+    }
+    minus_a = ones;
+    minus_a.bytes[0] = minus_a.bytes[1] = 255;
+
+    formula_gives(text, sum);
+    about = "the longest sum";
+    check(sum.length == LONGEST_BYTES, "its length");
+    comes_back(sum, 128);
+    slope_gives(sum, 0, slope_by_a);
+    slope_gives(slope_by_a, 0, BYTES(0));
+    list = put_for(0, one_term(2, 0, 0));
+    substitute_gives(sum, list, slope_by_a);
+    substitute_gives(slope_by_a, list, slope_by_a);
+    estimate_gives(sum, ones, measured(0, 0), power(2, 62), 0);
+    estimate_gives(sum, minus_a, measured(0, 0), -power(2, 62), 0);
+    estimate_refuses(sum, ones, measured(1, 0), REEVEBOOM_RANGE, 0);
+    about = "one byte less, and one more";
+    sum.length--;
+    unpack_is(sum, at(REEVEBOOM_SUM, LONGEST_BYTES - 1), NULL, NULL);
+    estimate_refuses(sum, ones, ones, REEVEBOOM_SUM, LONGEST_BYTES - 1);
+    sum.length++;
+    unpack_is(with(sum, 0), at(REEVEBOOM_SUM, LONGEST_BYTES), NULL, NULL);
+    estimate_refuses(with(sum, 0), ones, ones, REEVEBOOM_SUM, LONGEST_BYTES);
+
+    about = "2306 bytes";
+    check(heavy.length == REEVEBOOM_RESULT_BYTES, "their number");
+    unpack_is(heavy, at(REEVEBOOM_SUM, 20), NULL, NULL);
+    slope_refuses(heavy, 0, at(REEVEBOOM_SUM, 20));
+    substitute_refuses(heavy, BYTES(0), at(REEVEBOOM_SUM, 20));
+    estimate_refuses(heavy, ones, ones, REEVEBOOM_SUM, 20);
+    {
+        uint64_t patterns[128] = { 0 };
+        int64_t coefficients[128];
+        for (int i = 0; i < 128; i++) coefficients[i] = power(2, 62);
+        pack_in(128, patterns, 128, coefficients, 128, REEVEBOOM_RESULT_BYTES, at(REEVEBOOM_SUM, 1), NULL);
+    }
+}
+
+/* Slices that are only read may overlap. */
+static void overlaps(void) {
+    Bytes sum = square(), list = put_for(1, sum), wanted = sum_of("2*a^3+4*a^2*b+a^2"), both = measured(10, 3), word;
+    const uint64_t a_alone = (uint64_t)1 << 56;
+    uint8_t *pairs = copy(list.bytes, list.length, 1), *twice = copy(both.bytes, both.length, 1), *all_in_one = copy(both.bytes, both.length, 1);
+    uint64_t *patterns = words_block(REEVEBOOM_WORK_PLACES), *a_word = copy(&a_alone, 1, sizeof a_alone);
+    int64_t *coefficients = signed_block(REEVEBOOM_WORK_PLACES);
+    uint8_t *result = bytes_block(REEVEBOOM_RESULT_BYTES);
+    uint64_t got;
+
+    /* the sum that is put for b is the very one that it is put into */
+    about = "a sum inside the list";
+    got = reeveboom_substitute(pairs + 2, sum.length, pairs, list.length, result, REEVEBOOM_RESULT_BYTES,
+                               patterns, REEVEBOOM_WORK_PLACES, coefficients, REEVEBOOM_WORK_PLACES);
+    number_is(got, wanted.length);
+    result_is(result, REEVEBOOM_RESULT_BYTES, got, &wanted);
+    work_is(patterns, REEVEBOOM_WORK_PLACES, coefficients, REEVEBOOM_WORK_PLACES, got);
+    release(result);
+
+    about = "a list that is the sum";
+    result = bytes_block(REEVEBOOM_RESULT_BYTES);
+    got = reeveboom_substitute(pairs + 2, sum.length, pairs + 2, sum.length, result, REEVEBOOM_RESULT_BYTES,
+                               patterns, REEVEBOOM_WORK_PLACES, coefficients, REEVEBOOM_WORK_PLACES);
+    /* two pairs: c, whose sum has two terms, of coefficients 0 and so on */
+    number_is(got, at(REEVEBOOM_LIST, 3));
+    result_is(result, REEVEBOOM_RESULT_BYTES, got, NULL);
+    release(result);
+
+    about = "readings that are the tolerances";
+    result = bytes_block(REEVEBOOM_ANSWER_BYTES);
+    got = reeveboom_estimate(pairs + 2, sum.length, twice, REEVEBOOM_READING_BYTES, twice, REEVEBOOM_READING_BYTES, result, REEVEBOOM_ANSWER_BYTES);
+    number_is(got, REEVEBOOM_ANSWER_BYTES);
+    check(result[0] == 160 && result[8] == (640 - 160) % 256 && result[9] == (640 - 160) / 256, "estimate and margin");
+    release(result);
+
+    about = "a sum that is the readings and the tolerances";
+    result = bytes_block(REEVEBOOM_ANSWER_BYTES);
+    got = reeveboom_estimate(all_in_one, REEVEBOOM_READING_BYTES, all_in_one, REEVEBOOM_READING_BYTES, all_in_one, REEVEBOOM_READING_BYTES, result, REEVEBOOM_ANSWER_BYTES);
+    /* ten terms, of which the first has the coefficient 0 */
+    number_is(got, estimate_at(REEVEBOOM_SUM, 1));
+    check(marked_bytes(result, 0, REEVEBOOM_ANSWER_BYTES), "the answer area");
+    release(result);
+
+    about = "patterns that are the coefficients";
+    word = BYTES(1, 128, 128, 128, 128, 128, 128, 128, 128, 2, 1, 0, 0, 0, 0, 0, 0, 0);
+    result = bytes_block(REEVEBOOM_RESULT_BYTES);
+    got = reeveboom_pack(1, a_word, 1, (const int64_t *)a_word, 1, result, REEVEBOOM_RESULT_BYTES);
+    number_is(got, word.length);
+    result_is(result, REEVEBOOM_RESULT_BYTES, got, &word);
+    release(result);
+
+    release(pairs);
+    release(twice);
+    release(all_in_one);
+    release(a_word);
+    release(patterns);
+    release(coefficients);
+}
+
+/* Each refusal has a name, and a sentence of its own. */
+static void refusals(void) {
+    static const char *const names[] = { "DONE", "ROOM", "SHAPE", "NODE", "DEGREE", "WEIGHT", "SPREAD", "SUM", "LIST", "VARIABLE", "READING", "RANGE", "TEXT", "NODES" };
+    static const unsigned unknown[] = { 14, 15, 65535, 4294967295u };
+
+    about = "names and sentences";
+    for (unsigned r = 0; r < 14; r++) {
+        check(strcmp(reeveboom_refusal_name(r), names[r]) == 0, names[r]);
+        for (unsigned q = 0; q < r; q++) check(strcmp(reeveboom_refusal_sentence(r), reeveboom_refusal_sentence(q)) != 0, names[r]);
+    }
+    for (size_t i = 0; i < sizeof unknown / sizeof *unknown; i++) {
+        check(strcmp(reeveboom_refusal_name(unknown[i]), "UNKNOWN") == 0, "a number that is no refusal");
+        check(strcmp(reeveboom_refusal_sentence(unknown[i]), "there is no such refusal") == 0, "its sentence");
+    }
+    about = "the parts of any number";
+    taken_apart(0, 0, 0);
+    taken_apart(65535, 0, 65535);
+    taken_apart(65536, REEVEBOOM_ROOM, 0);
+    estimate_at(REEVEBOOM_SUM, 65535);
+    estimate_at(REEVEBOOM_NODES, 65535);
+    at(REEVEBOOM_ROOM, 0);
+    at(REEVEBOOM_TEXT, 1024);
+    at(REEVEBOOM_NODES, 4294967295u);
+    check(REEVEBOOM_VERSION == 400, "the version");
 }
 
 static void all(void) {
@@ -709,10 +881,12 @@ static void all(void) {
     lists();
     estimates();
     one_after_another();
+    largest_sums();
+    overlaps();
 }
 
 int main(void) {
-    parts();
+    refusals();
     standing = ON_THE_HEAP;
     all();
     standing = AT_THE_EDGE;

@@ -121,10 +121,9 @@ fn with_word_cut(chance: &mut Chance, line: &[u8]) -> Vec<u8> {
     joined(&fields)
 }
 
-/// Beyond 65,536 bytes with and without a newline. Exactly 65,536 is left out: REPLAY.md does not say whether the
-/// newline counts.
+/// 65,536 bytes, which are still looked at, and more. The newline does not count.
 fn too_long(chance: &mut Chance) -> Vec<u8> {
-    let length = chance.pick(&[65_535, 65_537, 65_538, 70_000]);
+    let length = chance.pick(&[65_536, 65_537, 65_538, 70_000]);
     let digits = if length % 2 == 0 { length - 10 } else { length - 9 };
     let mut line = b"text ".to_vec();
     line.resize(5 + digits, b'6');

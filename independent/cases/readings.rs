@@ -7,6 +7,7 @@ use super::unpacks::{damaged_packed, some_packed};
 use crate::lines::Case;
 use crate::packed::packed;
 use crate::sums::{Pattern, Sum, Term};
+use std::collections::BTreeSet;
 
 struct Numbers {
     readings: [i16; 8],
@@ -24,7 +25,8 @@ pub fn estimate_case(chance: &mut Chance) -> Case {
         45..=54 => (damaged_packed(chance), any_numbers(chance)),
         55..=69 => range_edge(chance),
         70..=81 => zero_factor(chance),
-        82..=85 => (some_packed(chance), any_numbers(chance)),
+        82..=83 => (some_packed(chance), any_numbers(chance)),
+        84..=86 => long_sum(chance),
         _ => return reading_fault(chance),
     };
     let (readings, tolerances) = (bytes_of(&numbers.readings), bytes_of(&numbers.tolerances));
@@ -63,6 +65,32 @@ fn low_numbers(chance: &mut Chance) -> Numbers {
         readings: std::array::from_fn(|_| chance.between(0, 2 * most) as i16 - most as i16),
         tolerances: std::array::from_fn(|_| chance.below(most + 1) as i16),
     }
+}
+
+/// More than sixteen terms with high powers: one letter with a raised reading of 2 and more, the others with 0 or 1. The
+/// largest power keeps the total in range, mostly.
+fn long_sum(chance: &mut Chance) -> (Vec<u8>, Numbers) {
+    let letter = chance.below(8);
+    let mut numbers = low_numbers(chance);
+    for index in 0..8 {
+        (numbers.readings[index], numbers.tolerances[index]) = chance.pick(&[(1, 0), (-1, 0), (-1, 0), (0, 1), (0, 0)]);
+    }
+    let (raised, most) = chance.pick(&[(2, 50), (2, 60), (3, 32), (3, 33), (6, 20), (12, 14), (300, 6)]);
+    let tolerance = if chance.one_in(2) { 0 } else { chance.below(raised + 1) };
+    numbers.readings[letter] = chance.signed((raised - tolerance) as i64) as i16;
+    numbers.tolerances[letter] = tolerance as i16;
+    let count = if chance.one_in(4) { chance.between(16, 18) } else { chance.between(17, 128) };
+    let mut patterns = BTreeSet::new();
+    while patterns.len() < count {
+        let power = chance.between(0, most);
+        let others = chance.below(61 - power);
+        patterns.insert(pattern_of_degree(chance, others, 8).with(letter, power as u8));
+    }
+    let terms = patterns.into_iter().map(|pattern| {
+        let size = chance.between(1, 9) as i64;
+        Term { coefficient: chance.signed(size), pattern }
+    });
+    (packed(&in_order(terms.collect())), numbers)
 }
 
 /// Raised readings that are powers of two, and one term that makes 2^62 exactly; a second one makes it 2^62 + 1.

@@ -2,7 +2,7 @@
 
 use super::chance::Chance;
 use super::lengths;
-use super::random_sums::{in_order, MOST_WEIGHT};
+use super::random_sums::{in_order, sum_from, Plan, MOST_WEIGHT};
 use super::unpacks::{damaged_packed, full_sum, some_packed};
 use crate::lines::Case;
 use crate::packed::packed;
@@ -14,7 +14,8 @@ pub fn slope_case(chance: &mut Chance) -> Case {
         0..=49 => some_packed(chance),
         50..=64 => damaged_packed(chance),
         65..=79 => weight_edge(chance, variable as usize),
-        80..=84 => packed(&full_sum(chance)),
+        80..=82 => packed(&full_sum(chance)),
+        83..=84 => many_terms(chance, variable as usize),
         _ => {
             variable = chance.pick(&[8, 8, 9, 255, 256, 263, 1 << 32, 1 << 63, u64::MAX]);
             if chance.one_in(4) {
@@ -46,6 +47,16 @@ fn weight_edge(chance: &mut Chance, variable: usize) -> Vec<u8> {
         terms.push(Term { coefficient: chance.signed(5), pattern: Pattern::letter((variable + 1) % 8) });
     }
     packed(&in_order(terms))
+}
+
+/// Up to 128 terms that all have the variable, so that the slope has as many.
+fn many_terms(chance: &mut Chance, variable: usize) -> Vec<u8> {
+    let plan = Plan { terms: chance.between(100, 128), degree: chance.between(10, 59), letters: 8 };
+    let mut sum = sum_from(chance, plan);
+    for term in &mut sum.terms {
+        term.pattern = term.pattern.product(&Pattern::letter(variable));
+    }
+    packed(&sum)
 }
 
 fn pure(variable: usize, power: u64) -> Pattern {

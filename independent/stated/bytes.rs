@@ -1,4 +1,4 @@
-//! READINGS C: packed bytes and pack.
+//! Packed bytes and pack: 01, and what docs/DECISIONS.md says of its open points.
 
 use super::{packed_of, Statements};
 use crate::lines::Case;
@@ -20,7 +20,7 @@ pub fn state(all: &mut Statements) {
 }
 
 fn tenth_byte(all: &mut Statements) {
-    let why = "READINGS C1, N5: the tenth byte";
+    let why = "the tenth byte";
     let long = [0xff; 9];
     for last in [0, 2, 3, 127, 128, 255] {
         all.unpack_refused(why, &[&long[..], &[last]].concat(), 0);
@@ -39,10 +39,10 @@ fn tenth_byte(all: &mut Statements) {
 }
 
 fn order_of_faults(all: &mut Statements) {
-    let why = "READINGS C2: a coefficient is judged at once";
+    let why = "a coefficient is judged at once";
     all.unpack_refused(why, &[1, 0], 1);
     all.unpack_refused(why, &[&[1][..], &[0xff; 9], &[1]].concat(), 1);
-    let why = "READINGS C3: the order is judged last";
+    let why = "the order is judged last";
     let twice = |tail: &[u8]| [&[2][..], &ONE[1..], &[2], tail].concat();
     all.unpack_refused(why, &twice(&[0; 8]), 10);
     all.unpack_refused(why, &twice(&[1, 0, 0, 0, 0, 0, 0, 0]), 10);
@@ -90,7 +90,7 @@ fn totals(all: &mut Statements) {
 
 /// Count 128 with 128 terms, and 129.
 fn counts(all: &mut Statements) {
-    let why = "READINGS C4: the count is judged at once";
+    let why = "the count is judged at once";
     all.unpack_refused(why, &[0x81, 1], 0);
     all.unpack_refused(why, &[0x80, 1], 2);
     let many = many_terms(128);
@@ -115,7 +115,7 @@ const A: u64 = 1 << 56;
 const B: u64 = 1 << 48;
 
 fn pack_terms(all: &mut Statements) {
-    let why = "READINGS C6: pack, a bad term";
+    let why = "pack, a bad term";
     let most = 1i64 << 62;
     let mut refused = |patterns: &[u64], coefficients: &[i64], place: usize| {
         let case = pack_case(patterns.len() as u64, patterns, coefficients);
@@ -148,7 +148,7 @@ fn full_pair() -> String {
 }
 
 fn pack_shapes(all: &mut Statements) {
-    let why = "READINGS C7, M: count and areas";
+    let why = "pack: count and areas";
     all.case(why, &pack_case(0, &[], &[]), "done 1 00 stay");
     all.case(why, &pack_case(0, &[u64::MAX], &[0]), "done 1 00 stay");
     all.case(why, &pack_case(1, &[A, u64::MAX], &[-1, i64::MIN, 0]), "done 10 01010100000000000000 stay");

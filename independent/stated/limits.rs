@@ -1,4 +1,4 @@
-//! READINGS B, D and M: tables, slopes, substitutions and estimates.
+//! Tables, slopes, substitutions and estimates: 01, and what docs/DECISIONS.md says of its open points.
 
 use super::{estimate_case, list_of, packed_of, typed_list, Statements};
 use crate::lines::Case;
@@ -16,17 +16,17 @@ pub fn state(all: &mut Statements) {
 }
 
 fn tables(all: &mut Statements) {
-    let why = "READINGS A1, A3: SHAPE, work areas zero";
+    let why = "SHAPE, work areas zero";
     all.table_refused(why, &[], SHAPE, 0);
     all.table_refused(why, &[1, 0], SHAPE, 0);
     all.table_refused(why, &[1, 0, 0, 1], SHAPE, 0);
     all.table_refused(why, &[1, 0, 0].repeat(65), SHAPE, 0);
     all.table_is("64 nodes", &[1, 0, 0].repeat(64), "a");
-    let why = "READINGS B1: node by node";
+    let why = "node by node";
     let high = [1, 0, 0, 4, 0, 60, 3, 0, 1];
     all.table_refused(why, &[&high[..], &[9, 9, 9]].concat(), DEGREE, 2);
     all.table_refused(why, &[&[9, 0, 0][..], &high].concat(), NODE, 0);
-    let why = "READINGS B2: exponent and variable of a table";
+    let why = "exponent and variable of a table";
     all.table_refused(why, &[1, 0, 0, 4, 0, 61], NODE, 1);
     all.table_refused(why, &[1, 0, 0, 4, 0, -1], NODE, 1);
     all.table_refused(why, &[1, 8, 0], NODE, 0);
@@ -35,28 +35,28 @@ fn tables(all: &mut Statements) {
     all.table_refused(why, &[0, 7, 1], NODE, 0);
     all.table_refused(why, &[2, 0, 0], NODE, 0);
     all.table_refused(why, &[1, 0, 0, 3, 0, 1], NODE, 1);
-    let why = "READINGS B3: integer nodes";
+    let why = "integer nodes";
     for value in [i64::MIN, i64::MAX, (1 << 62) + 1, -(1 << 62) - 1] {
         all.table_refused(why, &[1, 0, 0, 0, value, 0], WEIGHT, 1);
     }
-    let why = "READINGS B7, B9: a node twice, unused nodes";
+    let why = "a node twice, unused nodes";
     all.table_is(why, &[1, 0, 0, 1, 1, 0, 2, 0, 1, 3, 2, 2], "a^2+2*a*b+b^2");
     all.table_is(why, &[1, 2, 0, 2, 0, 0], "2*c");
     all.table_refused(why, &[0, i64::MIN, 0, 1, 0, 0], WEIGHT, 0);
 }
 
 fn formal(all: &mut Statements) {
-    let why = "READINGS B4, N2: formal, not actual";
+    let why = "formal, not actual";
     all.formula_refused(why, "(a-a)*a^60", DEGREE, 7);
     all.formula_refused(why, "(2305843009213693952-2305843009213693952)*2", WEIGHT, 6);
     all.formula(why, "(2305843009213693952-2305843009213693952)*1", "0");
-    let why = "READINGS B5: a step of a power loses a pattern";
+    let why = "a step of a power loses a pattern";
     all.formula(why, "(1+2*a-2*a^2)^2", "4*a^4-8*a^3+4*a+1");
     all.formula(why, "(1+2*a-2*a^2)^3", "-8*a^6+24*a^5-12*a^4-16*a^3+6*a^2+6*a+1");
     let losing = "(2+2*a-2*a^3-a^6-2*a*b-2*a^8*b-a*b^2)^4";
-    let why = "READINGS B5: 128 patterns in the last step, 129 if lost ones counted";
+    let why = "128 patterns in the last step, 129 if lost ones counted";
     all.accepted(why, &super::simplify_case(super::table_of(losing)));
-    let why = "READINGS B6: exponents 0 and 1";
+    let why = "exponents 0 and 1";
     all.formula(why, "0^1", "0");
     all.formula(why, "0^60", "0");
     all.formula(why, "4611686018427387904^0", "1");
@@ -87,7 +87,7 @@ fn slopes(all: &mut Statements) {
 }
 
 fn substitutions(all: &mut Statements) {
-    let why = "READINGS D1, D3: pairs from 0, a variable twice";
+    let why = "pairs from 0, a variable twice";
     let ab = packed_of("a*b");
     all.substitute(why, &ab, &typed_list(&[('a', "a+b"), ('a', "2*a")]), "2*a*b+b^2");
     let high = packed_of("a^2");
@@ -96,13 +96,22 @@ fn substitutions(all: &mut Statements) {
     all.substitute_refused(why, &high, &typed_list(&[('a', "2147483649*c")]), WEIGHT, 0);
     all.substitute(why, &high, &typed_list(&[('a', "2147483648*c")]), "4611686018427387904*c^2");
     all.substitute_refused(why, &packed_of("a^2+1"), &typed_list(&[('a', "2147483648*c")]), WEIGHT, 0);
-    let why = "READINGS D4: no pairs";
+    let why = "the degree of a pair: the other exponents and k times the degree of S";
+    let product = packed_of("a^2*b^30+h");
+    all.substitute(why, &product, &typed_list(&[('a', "c^15-1")]), "b^30*c^30-2*b^30*c^15+b^30+h");
+    all.substitute_refused(why, &product, &typed_list(&[('a', "c^16")]), DEGREE, 0);
+    all.substitute(why, &product, &typed_list(&[('h', "c^60")]), "c^60+a^2*b^30");
+    let why = "no pairs";
     all.substitute(why, &ab, &[0], "a*b");
     all.substitute_refused(why, &ab, &[], LIST, 0);
-    let why = "READINGS D9: zero put in";
+    let why = "zero put in";
     all.substitute(why, &packed_of("a^60+4611686018427387903*b"), &typed_list(&[('a', "0")]), "4611686018427387903*b");
     all.substitute(why, &[0], &typed_list(&[('a', "b"), ('b', "c")]), "0");
-    let why = "READINGS D2: the whole list before pair 0 is applied";
+    let difference = packed_of("a-b");
+    all.substitute("what is left is zero", &difference, &typed_list(&[('a', "b")]), "0");
+    let later = typed_list(&[('a', "b"), ('b', "4611686018427387904*c^60")]);
+    all.substitute("what is left is zero", &difference, &later, "0");
+    let why = "the whole list before pair 0 is applied";
     let bad = [typed_list(&[('a', "c^31")]), vec![0]].concat();
     all.substitute_refused(why, &high, &bad, LIST, bad.len() - 1);
 }
@@ -110,7 +119,7 @@ fn substitutions(all: &mut Statements) {
 fn lists(all: &mut Statements) {
     let ab = packed_of("a*b");
     let one = packed_of("1");
-    let why = "READINGS D5, D6, C5: the list's own faults";
+    let why = "the list's own faults";
     all.substitute_refused(why, &ab, &[9], LIST, 0);
     all.substitute_refused(why, &ab, &list_of(&[(0, &one[..]); 9]), LIST, 0);
     all.substitute(why, &ab, &list_of(&[(0, &one[..]); 8]), "b");
@@ -143,11 +152,11 @@ fn rests(count: usize, power: usize) -> Vec<u8> {
 }
 
 fn spreads(all: &mut Statements) {
-    let why = "READINGS D7: what cancels inside S^k does not count";
+    let why = "what cancels inside S^k does not count";
     let lost = typed_list(&[('a', "1+2*d-2*d^2")]);
     all.accepted(why, &super::substitute_case(&rests(32, 2), &lost));
     all.substitute_refused(why, &rests(33, 2), &lost, SPREAD, 0);
-    let why = "READINGS D8: every step of S^k";
+    let why = "every step of S^k";
     let wide = "1+b+c+d+e+f+g+h+b^2+c^3+d^4+e^5+f^6+g^7+h^8+b^9*c^9";
     all.substitute_refused(why, &packed_of("a^2"), &typed_list(&[('a', wide)]), SPREAD, 0);
     all.substitute_refused(why, &packed_of("a^3"), &typed_list(&[('a', "a+b+c+d+e+f+g+h+1")]), SPREAD, 0);
@@ -156,9 +165,9 @@ fn spreads(all: &mut Statements) {
 }
 
 fn estimates(all: &mut Statements) {
-    let why = "READINGS D11: the margin of demand 3";
+    let why = "the margin of demand 3";
     all.estimate(why, &packed_of("a^2-2*a"), &[1], &[1], (-1, 5));
-    let why = "READINGS D12: raised readings up to 65,535";
+    let why = "raised readings up to 65,535";
     let a = packed_of("a");
     all.estimate(why, &a, &[-32_768], &[32_767], (-32_768, 32_767));
     all.estimate(why, &packed_of("a^2"), &[-32_768], &[32_767], (1 << 30, 65_535 * 65_535 - (1 << 30)));
@@ -171,11 +180,11 @@ fn estimates(all: &mut Statements) {
     all.estimate(why, &full, &[], &[], (1 << 62, 0));
     all.estimate(why, &packed_of("-2*a^60"), &[-2], &[0], (-(1 << 61), 0));
     all.estimate_refused(why, &estimate_case(&packed_of("a^60"), &[2], &[1]), RANGE, 0);
-    all.estimate("READINGS N7: a zero factor first", &packed_of("2*a*b^59+1"), &[0, 32_767], &[0, 9], (1, 0));
+    all.estimate("a zero factor first", &packed_of("2*a*b^59+1"), &[0, 32_767], &[0, 9], (1, 0));
 }
 
 fn readings(all: &mut Statements) {
-    let why = "READINGS D10, N6: READING";
+    let why = "READING: a length first, then the first negative tolerance";
     let a = packed_of("a");
     for index in 0..8 {
         let mut tolerances = [0i16; 8];
@@ -184,9 +193,15 @@ fn readings(all: &mut Statements) {
         tolerances[7] = -32_768;
         all.estimate_refused(why, &estimate_case(&a, &[], &tolerances), READING, index);
     }
-    for (first, second) in [(15, 16), (16, 15), (17, 16), (16, 17), (0, 16), (16, 0), (0, 0), (18, 18)] {
-        let case = Case::Estimate { sum: a.clone(), readings: vec![1; first], tolerances: vec![0xff; second], answer: 16 };
-        all.estimate_refused(why, &case, READING, 0);
+    for (first, second) in [(15, 16), (16, 15), (17, 16), (16, 17), (0, 16), (16, 0), (0, 0), (18, 18), (32, 32)] {
+        // No negative tolerance; then all of them; then the fourth, whose place would be 3.
+        let mut fourth = vec![0; 32];
+        fourth[7] = 0x80;
+        fourth.truncate(second);
+        for tolerances in [vec![0; second], vec![0xff; second], fourth] {
+            let case = Case::Estimate { sum: a.clone(), readings: vec![1; first], tolerances, answer: 16 };
+            all.estimate_refused(why, &case, READING, 0);
+        }
     }
     let case = Case::Estimate { sum: vec![0x81, 1], readings: vec![], tolerances: vec![0xff; 16], answer: 16 };
     all.estimate_refused("SUM before READING", &case, SUM, 0);

@@ -1,13 +1,16 @@
-//! Outcomes that 01, READINGS and VECTORS state, as case lines with the answer they must get. The same lines begin the
-//! stored set. Packed sums come from typed texts by this program's own readers; the expected bytes come from the ordered
-//! sums as they are written in the papers (see `written`).
+//! Outcomes that 01 states, or docs/DECISIONS.md where 01 can be read in two ways, or a source document, as case lines
+//! with the answer they must get. The same lines begin the stored set. Packed sums come from typed texts by this
+//! program's own readers; the expected bytes come from the ordered sums as they are written in the papers (see
+//! `written`).
 
 mod bytes;
+mod faults;
 mod limits;
+mod long;
 mod room;
 mod scope;
+mod sources;
 mod texts;
-mod vectors;
 mod written;
 
 use crate::estimate::ANSWER_ROOM;
@@ -32,8 +35,10 @@ pub fn all() -> Vec<Stated> {
     limits::state(&mut statements);
     texts::state(&mut statements);
     bytes::state(&mut statements);
+    faults::state(&mut statements);
+    long::state(&mut statements);
     room::state(&mut statements);
-    vectors::state(&mut statements);
+    sources::state(&mut statements);
     statements.list
 }
 

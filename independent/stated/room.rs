@@ -1,4 +1,4 @@
-//! READINGS A: ROOM, what is left in the areas, and the lines that REPLAY.md answers `unknown`.
+//! ROOM, what is left in the areas, and the lines that REPLAY.md answers `unknown`.
 
 use super::{packed_of, table_of, Statements};
 use crate::lines::{answer, case_line, Case, LONGEST_LINE, UNKNOWN};
@@ -30,7 +30,7 @@ fn lengths(all: &mut Statements, areas: &[(usize, usize)], name: &str, line: &dy
         for length in [need - 1, 0, 1, need / 2] {
             let mut chosen = exact.clone();
             chosen[index] = length;
-            all.line("READINGS A1, A2: one area short", &line(&chosen), &format!("refused 1 0 {stay}"));
+            all.line("one area short", &line(&chosen), &format!("refused 1 0 {stay}"));
         }
         for length in [need, need + 1, longest] {
             let mut chosen = exact.clone();
@@ -72,9 +72,9 @@ fn estimate_line(lengths: &[usize]) -> String {
     case_line(&Case::Estimate { sum: packed_of("a-1"), readings, tolerances, answer: lengths[0] })
 }
 
-/// READINGS A2: ROOM before every other check, also on inputs that are refused for another reason.
+/// ROOM before every other check, also on inputs that are refused for another reason.
 fn before_others(all: &mut Statements) {
-    let why = "READINGS A2, N1: ROOM first, and nothing is touched";
+    let why = "ROOM first, and nothing is touched";
     for (line, fates) in [
         ("text - 191", "stay"),
         ("simplify - 2305 8192 8192", "stay stay stay"),
@@ -90,7 +90,7 @@ fn before_others(all: &mut Statements) {
     ] {
         all.line(why, line, &format!("refused 1 0 {fates}"));
     }
-    let why = "READINGS A3, N1: work areas are zero after every other refusal";
+    let why = "work areas are zero after every other refusal";
     all.line(why, "simplify - 2306 8192 8192", "refused 2 0 stay zero zero");
     all.line(why, "substitute - - 2306 8192 8192", "refused 7 0 stay zero zero");
     all.line(why, "substitute 00 - 2306 9000 8193", "refused 8 0 stay zero zero");
@@ -119,8 +119,10 @@ fn unknown(all: &mut Statements) {
     all.line(why, "pack 18446744073709551615 - - 2306", "refused 2 0 stay");
     all.line(why, "slope 00 18446744073709551615 40000", "refused 9 0 stay");
     all.line(why, "estimate 00 - - 40000", "refused 10 0 stay");
-    // Well within and well beyond: REPLAY.md does not say whether the newline counts.
-    let line_of = |bytes: usize| format!("text {} 192", "61".repeat(bytes));
-    all.line("REPLAY: a line of 65,535 bytes", &line_of(LONGEST_LINE / 2 - 5), "refused 12 1024 stay");
-    all.line("REPLAY: a line over 65,536 bytes", &line_of(LONGEST_LINE / 2 - 4), UNKNOWN);
+    // The newline does not count.
+    let line_of = |bytes: usize, table: usize| format!("text {} {table}", "61".repeat(bytes));
+    let (longest, longer) = (line_of(LONGEST_LINE / 2 - 5, 1920), line_of(LONGEST_LINE / 2 - 4, 192));
+    assert_eq!((longest.len(), longer.len()), (LONGEST_LINE, LONGEST_LINE + 1));
+    all.line("REPLAY: a line of 65,536 bytes", &longest, "refused 12 1024 stay");
+    all.line("REPLAY: a line of one byte more", &longer, UNKNOWN);
 }

@@ -1,4 +1,4 @@
-//! READINGS E: typed text.
+//! Typed texts: 01, and what docs/DECISIONS.md says of its open points.
 
 use super::{table_of, Statements};
 use crate::refusals::{NODES, TEXT};
@@ -13,7 +13,7 @@ pub fn state(all: &mut Statements) {
 
 fn lengths(all: &mut Statements) {
     all.line("REPLAY, the example", "text 612d61 192", &format!("done 5 {} stay", crate::fields::show_signed(&minus())));
-    let why = "READINGS E1: over 1,024 bytes";
+    let why = "over 1,024 bytes";
     all.text_refused(why, &"x".repeat(1025), TEXT, 1024);
     all.text_refused(why, &"a".repeat(1025), TEXT, 1024);
     all.text_refused(why, &"x".repeat(1024), TEXT, 0);
@@ -24,7 +24,7 @@ fn lengths(all: &mut Statements) {
     all.text_refused(why, &["11", &"+a".repeat(511)].concat(), NODES, 0);
     all.nodes(why, &long_text(1024), 59);
     all.text_refused(why, &long_text(1025), TEXT, 1024);
-    let why = "READINGS E2: a text that could still go on";
+    let why = "a text that could still go on";
     all.text_refused(why, "", TEXT, 0);
     for text in ["-", "a+", "a*", "a^", "(", "(a", "((a)", "a-(b*", "-(a)^"] {
         all.text_refused(why, text, TEXT, text.len());
@@ -46,7 +46,7 @@ fn long_text(length: usize) -> String {
 }
 
 fn numbers(all: &mut Statements) {
-    let why = "READINGS E3: numbers";
+    let why = "numbers";
     all.text_refused(why, "46116860184273879050", TEXT, 18);
     all.text_refused(why, "4611686018427387905", TEXT, 18);
     all.text_refused(why, "46116860184273879040", TEXT, 19);
@@ -77,7 +77,7 @@ fn numbers(all: &mut Statements) {
 }
 
 fn signs(all: &mut Statements) {
-    let why = "READINGS E5, E6: minus and ^";
+    let why = "minus and ^";
     all.text_refused(why, "a*-b", TEXT, 2);
     all.text_refused(why, "a+-b", TEXT, 2);
     all.text_refused(why, "--a", TEXT, 1);
@@ -88,7 +88,7 @@ fn signs(all: &mut Statements) {
     all.formula(why, "(-a)^2", "a^2");
     all.formula(why, "a*(-b)", "-a*b");
     all.formula(why, "-a-(-b-c)", "-a+b+c");
-    let why = "READINGS E7, N8: nodes of a minus";
+    let why = "nodes of a minus";
     all.table(why, "-a*b", &[[1, 0, 0], [1, 1, 0], [3, 0, 1], [0, -1, 0], [3, 3, 2]]);
     all.table(why, "-a^2", &[[1, 0, 0], [4, 0, 2], [0, -1, 0], [3, 2, 1]]);
     all.table(why, "a-b", &[[1, 0, 0], [1, 1, 0], [0, -1, 0], [3, 2, 1], [2, 0, 3]]);
@@ -98,7 +98,7 @@ fn signs(all: &mut Statements) {
 }
 
 fn brackets(all: &mut Statements) {
-    let why = "READINGS E4: the 17th bracket";
+    let why = "the 17th bracket";
     let nested = |depth: usize| format!("{}a{}", "(".repeat(depth), ")".repeat(depth));
     all.formula(why, &nested(16), "a");
     all.text_refused(why, &nested(17), TEXT, 16);
@@ -110,7 +110,7 @@ fn brackets(all: &mut Statements) {
 }
 
 fn node_limits(all: &mut Statements) {
-    let why = "64 and 65 nodes, READINGS E8";
+    let why = "64 and 65 nodes, and TEXT before NODES";
     let letters = |count: usize| "a+".repeat(count - 1) + "a";
     let exactly = format!("{}^1", letters(32));
     assert_eq!(table_of(&exactly).len(), 3 * 64);

@@ -1,4 +1,4 @@
-//! Every row of VECTORS.md.
+//! Formulas that the source documents 000, 001 and 002 work out.
 
 use super::{packed_of, typed_list, Statements};
 use crate::refusals::NODES;
@@ -15,7 +15,7 @@ const SECOND: &str = "(-1)*(a^2*b^2*c^2*d^2+e^2*f^2)^2";
 const FIRST_ORDERED: &str = "a^4*b^4*c^4*d^4+6*a^2*b^2*c^2*d^2*e^2*f^2+e^4*f^4";
 
 fn chapter_two(all: &mut Statements) {
-    let why = "VECTORS, 001 ch. 2";
+    let why = "001 ch. 2";
     all.nodes(why, FIRST, 48);
     all.formula(why, FIRST, FIRST_ORDERED);
     all.nodes(why, SECOND, 22);
@@ -24,7 +24,7 @@ fn chapter_two(all: &mut Statements) {
     let sum = "a^4*b^4*c^4*d^4+6*a^2*b^2*c^2*d^2*e^2*f^2+e^4*f^4-(a^2*b^2*c^2*d^2+e^2*f^2)^2";
     all.nodes(why, sum, 58);
     all.formula(why, sum, "4*a^2*b^2*c^2*d^2*e^2*f^2");
-    let why = "VECTORS, 001 ch. 3";
+    let why = "001 ch. 3";
     let test = "(c*a*d*b+f*e)^4-(c*e*a+d*b*f)^4";
     all.nodes(why, test, 27);
     let first = "a^4*b^4*c^4*d^4+4*a^3*b^3*c^3*d^3*e*f-a^4*c^4*e^4-4*a^3*b*c^3*d*e^3*f";
@@ -33,25 +33,25 @@ fn chapter_two(all: &mut Statements) {
 }
 
 fn short_rows(all: &mut Statements) {
-    let why = "VECTORS, 001 pp. 11, 13";
+    let why = "001 pp. 11, 13";
     all.formula(why, "a*(b+c)", "a*b+a*c");
     all.formula(why, "(a*b)^3", "a^3*b^3");
     all.formula(why, "a^3*a*a^2", "a^6");
     let sixth = "a^6+6*a^5*b+15*a^4*b^2+20*a^3*b^3+15*a^2*b^4+6*a*b^5+b^6";
     all.formula(why, "((a+b)^3)^2", sixth);
     all.formula(why, "(a+b)^6", sixth);
-    let why = "VECTORS, 000 ch. 1, slope";
+    let why = "000 ch. 1, slope";
     let square = all.formula(why, "(a+b)*(a+b)", "a^2+2*a*b+b^2");
     let slope = all.slope(why, &square, 'a', "2*a+2*b");
     all.slope(why, &slope, 'b', "2");
-    let why = "VECTORS, 000 ex. 6";
+    let why = "000 ex. 6";
     let ordered = "a^5-5*a^3*b+5*a^2*c+5*a*b^2-5*a*d-5*b*c+5*e";
     all.formula(why, ordered, ordered);
 }
 
 /// P(k+1) = slope(P) (1 - a^2) + (2k - 1) a P: the slope's line, then both put in for b and c.
 fn slopes_in_turn(all: &mut Statements) {
-    let why = "VECTORS, 002, slopes in turn";
+    let why = "002, slopes in turn";
     let sums = [
         "1",
         "a",
@@ -72,7 +72,7 @@ fn slopes_in_turn(all: &mut Statements) {
 }
 
 fn substitutions(all: &mut Statements) {
-    let why = "VECTORS, 000 3.2.2.8, substitution";
+    let why = "000 3.2.2.8, substitution";
     let sum = all.formula(why, "a+b+c", "a+b+c");
     all.substitute(why, &sum, &typed_list(&[('a', "b+c"), ('b', "d"), ('c', "e")]), "2*d+2*e");
     all.substitute(why, &sum, &typed_list(&[('b', "d"), ('c', "e"), ('a', "b+c")]), "b+c+d+e");
