@@ -31,7 +31,7 @@ use Rattle.formula.specs.Table.{Entry, judgeTable, isShape}
 use Rattle.formula.specs.Simplify.{lastSum, tableSum, simplify}
 use Rattle.formula.proofs.Meaning.{last-accepted}
 use Rattle.formula.proofs.Passing.{table-length, AllPass, judge-says, shape-judge, no-shape-judge}
-use Rattle.formula.proofs.Simplifying.{shape-says}
+use Rattle.formula.proofs.Simplifying.{shape-says, simplify-worked}
 use Rattle.text.specs.Limits.{tablePlaces}
 use Rattle.text.specs.Tree.{Tree, nodesOf}
 use Rattle.text.specs.Text.{judgeText, tableInto, readFormula, textSum}
@@ -56,9 +56,9 @@ pub record Terms (sum : Sum) (count : ℕ) (ws : List ℕ) (cs : List ℤ) : Typ
 
 module _ (bytes ws : List ℕ) (cs : List ℤ) (words-room : mostTerms ≤ length ws) (coefficients-room : mostTerms ≤ length cs) (a : Answer)
     {ws' : List ℕ} {cs' : List ℤ} (e : outcome (told a) (ws', cs') ≡ unpack bytes ws cs) {s : Sum} (p : Packs bytes s) where
-  gives : {t : Told} → told a ≡ t → outcome {WorkAreas = List ℕ × List ℤ} t (ws', cs') ≡ outcome (done (length s)) (written (wordsOf s) ws, written (coefficientsOf s) cs)
+  gives : {t : Told} → told a ≡ t → outcome {Areas = List ℕ × List ℤ} t (ws', cs') ≡ outcome (done (length s)) (written (wordsOf s) ws, written (coefficientsOf s) cs)
   gives f =
-      ap (λ (t : Told). outcome {WorkAreas = List ℕ × List ℤ} t (ws', cs')) (sym f) ∙ e ∙ ap (λ (l : List ℕ). unpack l ws cs) (p .bytes-are)
+      ap (λ (t : Told). outcome {Areas = List ℕ × List ℤ} t (ws', cs')) (sym f) ∙ e ∙ ap (λ (l : List ℕ). unpack l ws cs) (p .bytes-are)
       ∙ unpack-accepts s ws cs (p .accepted) words-room coefficients-room
 
   pub unpacked : {count : ℕ} → a ≡ Done count → Terms s count ws' cs'
@@ -97,8 +97,7 @@ judged-passes table nodes e = go (isShape (length table)) refl
 module _ (table : List ℤ) (ws : List ℕ) (cs : List ℤ) (area : List ℕ) (room : WorkRoom ws cs area) (a : Answer) {ws' : List ℕ} {cs' : List ℤ} {area' : List ℕ}
     (e : outcome (told a) (ws', cs', area') ≡ simplify table ws cs area) where
   judged : {t : Told} → told a ≡ t → outcome t (ws', cs', area') ≡ beside (cleared 0 workPlaces ws) (cleared (pos 0) workPlaces cs) (packedInto (tableSum table) area)
-  unfolding simplify
-  judged f = ap (λ (t : Told). outcome t (ws', cs', area')) (sym f) ∙ e ∙ with-room (tableSum table) ws cs area room
+  judged f = ap (λ (t : Told). outcome t (ws', cs', area')) (sym f) ∙ e ∙ simplify-worked table ws cs area ∙ with-room (tableSum table) ws cs area room
 
   pub simplified : {n : ℕ} → a ≡ Done n → Simple table n area'
   unfolding tableSum andThen packedInto

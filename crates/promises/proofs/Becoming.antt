@@ -56,6 +56,15 @@ read-table {text} formula t =
 
 -- ---- Values.
 
+table-values : (ks : List Kind) {bytes : List ℕ} → Simplifies (tableOf ks) bytes → HasValues bytes (formulaValue ks)
+table-values ks r =
+    let d = simplified r in
+    record {
+      sum = d .sum;
+      of-bytes = simplified-bytes r;
+      values = λ x. ap (λ js. formulaValue js x) (table-one ks (d .ks) (d .table-is)) ∙ sym (d .means .values x);
+    }
+
 pub becomes-values : {bytes : List ℕ} {f : List ℤ → ℤ} → Becomes bytes f → HasValues bytes f
 becomes-values (a-sum s accepted are) = record { sum = s; of-bytes = record { accepted = accepted; bytes-are = sym are }; values = λ x. refl }
 becomes-values (a-table ks r) = table-values ks r

@@ -80,6 +80,10 @@ coefficients = replicate workPlaces (pos 0)
 abbrev result : List ℕ
 result = replicate (mostBytes variables) 0
 
+table-long : length table ≡ 3 * size tree
+unfolding tableOf nodesOf size
+table-long = refl
+
 is-read : ReadsAs (quoted "(a+b)^2-b^2") table
 is-read = record {
   area = tableArea;
@@ -87,14 +91,14 @@ is-read = record {
   area' = written table tableArea;
   is-done = typed-accepts (quoted "(a+b)^2-b^2") tableArea (record {
     tree = tree;
-    room = omega (arith, length-replicate 192 (pos 0));
+    room = omega (arith, length-replicate {A = ℤ} 192 (pos 0));
     short = unfold quoted in omega arith;
     formula = is-formula;
     few = unfold size in omega arith;
     many = refl;
     table-is = refl;
   });
-  table-is = written-front table tableArea refl (unfold tableOf nodesOf size in refl) .0;
+  table-is = written-front table tableArea refl table-long .0;
 }
 
 is-simplified : Simplifies table (packed sum)
@@ -106,9 +110,9 @@ is-simplified = record {
   count = length (packed sum);
   areas = clearedWith patterns coefficients (written (packed sum) result);
   is-done = with-room (tableSum table) patterns coefficients result (record {
-    patterns-room = omega (arith, length-replicate workPlaces 0);
-    coefficients-room = omega (arith, length-replicate workPlaces (pos 0));
-    result-room = omega (arith, length-replicate (mostBytes variables) 0);
+    patterns-room = omega (arith, length-replicate {A = ℕ} workPlaces 0);
+    coefficients-room = omega (arith, length-replicate {A = ℤ} workPlaces (pos 0));
+    result-room = omega (arith, length-replicate {A = ℕ} (mostBytes variables) 0);
   });
   bytes-are = written-front (packed sum) result refl refl .0;
 }
