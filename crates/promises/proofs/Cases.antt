@@ -59,20 +59,20 @@ pub cases-hold : Each Says cases × Each Says further
 unfolding computing cases further
 cases-hold = (
   refl also refl
-  also refl
-  also refl also refl
-  also refl also refl
-  also refl also refl also refl
-  also refl also (refl, (refl, refl))
-  also refl
-  also refl also refl
-  also refl also refl also refl
-  also refl also refl
-  also tt,
+      also refl
+      also refl also refl
+      also refl also refl
+      also refl also refl also refl
+      also refl also (refl, (refl, refl))
+      also refl
+      also refl also refl
+      also refl also refl also refl
+      also refl also refl
+      also tt,
   refl also refl
-  also refl also refl
-  also refl
-  also refl
-  also refl also refl also refl also refl also refl
-  also tt,
+      also refl also refl
+      also refl
+      also refl
+      also refl also refl also refl also refl also refl
+      also tt,
 )

@@ -59,7 +59,6 @@ module _ {w : ℕ} {c : ℤ} {tp : List ℕ} {tc : List ℤ} (g : HasTerm w c tp
     word-is : getD (wordsOf (rowOf w c tp tc)) k 0 ≡ word next
     word-is =
         map-at (λ (t : Term). word (t .pattern)) (rowOf w c tp tc) k none 0 inside ∙ ap (λ (t : Term). word (t .pattern)) next-is
-       
 
     pub value-fits : SFits w64 (c *ℤ getD tc k (pos 0))
     value-fits = product-fits (g .factor) k h c (g .light)

@@ -147,8 +147,7 @@ pub within-abs : (z e : ℤ) (m : ℕ) → natAbs (z -ℤ e) ≤ m → ((e -ℤ 
 within-abs z e m h =
     let apart = add-is z (negℤ e) in
     let least = add-is e (negℤ (pos m)) in
-    let size = abs-parts (z -ℤ e) in
-    (
+    let size = abs-parts (z -ℤ e) in (
       le-parts (e -ℤ pos m) z (omega (arith, h, apart, least, size, neg-above e, neg-below e, neg-above (pos m), neg-below (pos m))),
       le-parts z (e +ℤ pos m) (omega (arith, h, apart, add-is e (pos m), size, neg-above e, neg-below e)),
     )
