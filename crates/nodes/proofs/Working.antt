@@ -3,27 +3,30 @@ use mathlib.Core.Path.{_≡_, refl, sym, _∙_, ap, ap₂, subst}
 use mathlib.Core.List.{List, [], _∷_, _++_, map}
 use Prim.Native.Nat.{ℕ, zero, suc, _+_, _*_, _-_, _^_, _≤_, _<_}
 use native.Mathlib.Omega.{arith}
+use native.Mathlib.Nat.{add-zero, add-comm, mul-comm}
 use native.Mathlib.Numerals.{add-one}
 use native.Mathlib.Decide.{decLt}
+use borrow.Author.Tests.{lt-ltb}
 use lib.Dec.{T}
-use lib.IntN.{ℤ}
+use lib.IntN.{ℤ, pos}
 use lib.ListN.{length, getD, take, drop, length-append, length-map, List·getD-append, List·getD-map}
-use lib.Seq.{getD-at, length-take-le}
+use lib.Seq.{getD-at, getD-take, getD-drop, length-take-le}
 use borrow.Rule.Slice.PartMut.{midOf, putMid}
 use types.Run.{OneOf}
 use denote.Enum.Declared.{tagOf}
 use Rattle.algebra.specs.Limits.{variables, largestDegree, mostTerms, largestWeight, mostNodes, workPlaces}
-use Rattle.algebra.specs.Sum.{Sum, noZero, degreeOf, weight}
+use Rattle.algebra.specs.Sum.{term, Sum, noZero, degreeOf, weight}
 use Rattle.algebra.specs.Arithmetic as arithmetic
-use Rattle.algebra.specs.Arithmetic.{_⊕_, sumSpread}
-use Rattle.algebra.specs.Word.{terms}
+use Rattle.algebra.specs.Collect.{dropZeros}
+use Rattle.algebra.specs.Arithmetic.{row, _⊕_, sumSpread, _⊗_, productSpread}
+use Rattle.algebra.specs.Word.{exponents, terms}
 use Rattle.algebra.specs.Held.{wordsOf, coefficientsOf, firstTerms}
 use Rattle.algebra.proofs.Sums.Ordered.{parts}
-use Rattle.algebra.proofs.Sums.Results.{sum-length}
+use Rattle.algebra.proofs.Sums.Results.{sum-length, product-length}
 use Rattle.answers.specs.Areas.{written}
 use Rattle.answers.proofs.Writes.{written-front}
 use Rattle.sums.specs.Held.{HeldSum}
-use Rattle.sums.specs.Asked.{Room, RoomOf, Addends}
+use Rattle.sums.specs.Asked.{Room, RoomOf, Addends, Factors}
 use Rattle.sums.specs.Formed.{Formed, formedOf, Formed.formed, Formed.over, within, formedInto, sumOf, productOf, powerOf}
 use Rattle.sums.specs.declared.Formed as declared
 use Rattle.sums.specs.declared.Formed.the-variants.{Terms}
@@ -34,6 +37,9 @@ use Rattle.nodes.specs.Formal.{formalDegree, formalWeight, nodeSpread, n
 use Rattle.sums.proofs.Holding.{terms-many, holdable}
 use Rattle.sums.proofs.Forming.{within-yes, within-no}
 use Rattle.sums.proofs.Answering.{Given, given, refused}
+use Rattle.sums.proofs.ByTerm.{has-term, by-one}
+use Rattle.sums.proofs.Multiplying.{product-turned}
+use Rattle.sums.specs.Rows.{HasTerm}
 use Rattle.sums.proofs.Fronts.{Placed, placed-written, placed-is}
 use Rattle.sums.specs.Part.{part}
 use Rattle.nodes.specs.Inside.Work.{sumAt, sumsAt, Keeps, nodeFormed, FormedAt, Ready, PutAt}
@@ -205,41 +211,143 @@ module _ {i a b : ℕ} {ns : List ℕ} {ws : List ℕ} {cs : List ℤ} (r : Read
   pub addends-sum : sumOf (terms (readAt a (getD ns a 0) ws) (readAt a (getD ns a 0) cs)) (terms (readAt b (getD ns b 0) ws) (readAt b (getD ns b 0) cs)) ≡ nodeFormed (sumsAt i ns ws cs) (sum a b)
   addends-sum = let h = addends-there in addends-formed (sumsAt i ns ws cs) a b (read-is r a (h .0)) (read-is r b (h .1))
 
+-- ---- The product of two nodes, the first of which has one term.
+
+-- the first place of the part of node a
+first-place : {A : Type 0} (a n : ℕ) (xs : List A) (d : A) → n ≡ 1 → getD (readAt a n xs) 0 d ≡ getD xs (mostTerms * a) d
+first-place a n xs d one =
+    getD-take (mostTerms * a + n - mostTerms * a) (drop (mostTerms * a) xs) 0 d (omega arith) ∙ getD-drop (mostTerms * a) xs 0 d ∙ ap (λ (k : ℕ). getD xs k d) (add-zero (mostTerms * a))
+
+module _ {i a b : ℕ} {ns : List ℕ} {ws : List ℕ} {cs : List ℤ} (r : Ready i ns ws cs (product a b)) where
+  pub factors-there : (a < i) × (b < i)
+  factors-there = two-children i a b (r .is-node)
+
+  factors : Factors (readAt a (getD ns a 0) ws) (readAt a (getD ns a 0) cs) (readAt b (getD ns b 0) ws) (readAt b (getD ns b 0) cs)
+  factors =
+      let h = factors-there in
+      let is = read-is r a (h .0) in
+      let is' = read-is r b (h .1) in
+      record {
+        first = read-held r a (h .0) .held;
+        second = read-held r b (h .1) .held;
+        low = factors-low (sumsAt i ns ws cs) a b is is' (r .low);
+        light = factors-light (sumsAt i ns ws cs) a b is is' (r .light);
+      }
+
+  module _ (one : getD ns a 0 ≡ 1) where
+    alone : length (readAt a (getD ns a 0) ws) ≡ 1
+    alone = read-many r a (factors-there .0) ∙ one
+
+    c-is : getD (readAt a (getD ns a 0) cs) 0 (pos 0) ≡ getD cs (mostTerms * a) (pos 0)
+    c-is = first-place a (getD ns a 0) cs (pos 0) one
+
+    w-is : getD (readAt a (getD ns a 0) ws) 0 0 ≡ getD ws (mostTerms * a) 0
+    w-is = first-place a (getD ns a 0) ws 0 one
+
+    pub only-term : HasTerm (getD ws (mostTerms * a) 0) (getD cs (mostTerms * a) (pos 0)) (readAt b (getD ns b 0) ws) (readAt b (getD ns b 0) cs)
+    only-term =
+        subst (λ (z : ℤ). HasTerm (getD ws (mostTerms * a) 0) z (readAt b (getD ns b 0) ws) (readAt b (getD ns b 0) cs)) c-is
+        (subst (λ (v : ℕ). HasTerm v (getD (readAt a (getD ns a 0) cs) 0 (pos 0)) (readAt b (getD ns b 0) ws) (readAt b (getD ns b 0) cs)) w-is (has-term factors alone))
+
+    pub second-room : {ps : List ℕ} {ds : List ℤ} → RoomOf (getD ns b 0) ps ds → RoomOf (length (readAt b (getD ns b 0) ws)) ps ds
+    second-room room = rw (read-many r b (factors-there .1)) room
+
+    pub only-formed : formed (dropZeros (row (term (getD cs (mostTerms * a) (pos 0)) (exponents (getD ws (mostTerms * a) 0))) (terms (readAt b (getD ns b 0) ws) (readAt b (getD ns b 0) cs))))
+        ≡ productOf (terms (readAt a (getD ns a 0) ws) (readAt a (getD ns a 0) cs)) (terms (readAt b (getD ns b 0) ws) (readAt b (getD ns b 0) cs))
+    only-formed =
+        ap₂ (λ (z : ℤ) (v : ℕ). formed (dropZeros (row (term z (exponents v)) (terms (readAt b (getD ns b 0) ws) (readAt b (getD ns b 0) cs))))) (sym c-is) (sym w-is) ∙ by-one factors alone
+
+  pub factors-product : productOf (terms (readAt a (getD ns a 0) ws) (readAt a (getD ns a 0) cs)) (terms (readAt b (getD ns b 0) ws) (readAt b (getD ns b 0) cs)) ≡ nodeFormed (sumsAt i ns ws cs) (product a b)
+  factors-product = let h = factors-there in factors-formed (sumsAt i ns ws cs) a b (read-is r a (h .0)) (read-is r b (h .1))
+
+-- the operands may be turned
+degree-turned : (ds : List ℕ) (a b : ℕ) → formalDegree ds (product a b) ≡ formalDegree ds (product b a)
+unfolding formalDegree
+degree-turned ds a b = add-comm (getD ds a 0) (getD ds b 0)
+
+weight-turned : (hs : List ℕ) (a b : ℕ) → formalWeight hs (product a b) ≡ formalWeight hs (product b a)
+unfolding formalWeight
+weight-turned hs a b = mul-comm (getD hs a 0) (getD hs b 0)
+
+pub ready-turned : {i a b : ℕ} {ns : List ℕ} {ws : List ℕ} {cs : List ℤ} → Ready i ns ws cs (product a b) → Ready i ns ws cs (product b a)
+ready-turned {i} {a} {b} {ns} {ws} {cs} r =
+    let h = factors-there r in
+    record {
+      is-node = rw (lt-ltb b i (h .1), lt-ltb a i (h .0)) tt;
+      inside = r .inside;
+      counted = r .counted;
+      words-room = r .words-room;
+      coefficients-room = r .coefficients-room;
+      keeps = r .keeps;
+      low = omega (arith, r .low, degree-turned (map degreeOf (sumsAt i ns ws cs)) a b);
+      light = omega (arith, r .light, weight-turned (map weight (sumsAt i ns ws cs)) a b);
+    }
+
+pub formed-turned : (ss : List Sum) (a b : ℕ) → nodeFormed ss (product b a) ≡ nodeFormed ss (product a b)
+formed-turned ss a b = sym (factors-formed ss b a refl refl) ∙ product-turned (getD ss b []) (getD ss a []) ∙ factors-formed ss a b refl refl
+
 -- ---- A sum that was formed in two arrays, and put into the part of node i: ps and ds are the arrays before, ps' and ds' after.
 
-module _ (i : ℕ) (s t : Sum) {f : Formed Sum} (is : sumOf s t ≡ f) (ws : List ℕ) (cs : List ℤ) (ps : List ℕ) (ds : List ℤ) (ps' : List ℕ) (ds' : List ℤ) (answer : declared.Formed)
-    (e : (formedOf answer, ps', ds') ≡ formedInto (sumOf s t) ps ds) where
+pub record Made (f : Formed Sum) (ps : List ℕ) (ds : List ℤ) (ps' : List ℕ) (ds' : List ℤ) (answer : declared.Formed) : Type 0 where
+  pub spread : ℕ
+  pub made : Sum
+  pub small : length made ≤ spread
+  pub is : within spread made ≡ f
+  pub told : (formedOf answer, ps', ds') ≡ formedInto (within spread made) ps ds
+
+module _ (s t : Sum) {f : Formed Sum} {ps : List ℕ} {ds : List ℤ} {ps' : List ℕ} {ds' : List ℤ} (answer : declared.Formed) where
+  pub sum-made : sumOf s t ≡ f → (formedOf answer, ps', ds') ≡ formedInto (sumOf s t) ps ds → Made f ps ds ps' ds' answer
+  unfolding sumOf
+  sum-made is e = record { spread = sumSpread s t; made = s ⊕ t; small = sum-length s t; is = is; told = e }
+
+  pub product-made : productOf s t ≡ f → (formedOf answer, ps', ds') ≡ formedInto (productOf s t) ps ds → Made f ps ds ps' ds' answer
+  unfolding productOf
+  product-made is e = record { spread = productSpread s t; made = s ⊗ t; small = product-length s t; is = is; told = e }
+
+-- what was formed of two nodes
+module _ {i a b : ℕ} {ns : List ℕ} {ws : List ℕ} {cs : List ℤ} {ps : List ℕ} {ds : List ℤ} {ps' : List ℕ} {ds' : List ℤ} where
+  pub addends-made : (r : Ready i ns ws cs (sum a b)) (answer : declared.Formed)
+      → (formedOf answer, ps', ds') ≡ formedInto (sumOf (terms (readAt a (getD ns a 0) ws) (readAt a (getD ns a 0) cs)) (terms (readAt b (getD ns b 0) ws) (readAt b (getD ns b 0) cs))) ps ds
+      → Made (nodeFormed (sumsAt i ns ws cs) (sum a b)) ps ds ps' ds' answer
+  addends-made r answer e = sum-made _ _ answer (addends-sum r) e
+
+  pub term-made : (r : Ready i ns ws cs (product a b)) → getD ns a 0 ≡ 1 → {z : ℤ} → z ≡ getD cs (mostTerms * a) (pos 0) → (answer : declared.Formed)
+      → (formedOf answer, ps', ds') ≡ formedInto (formed (dropZeros (row (term z (exponents (getD ws (mostTerms * a) 0))) (terms (readAt b (getD ns b 0) ws) (readAt b (getD ns b 0) cs))))) ps ds
+      → Made (nodeFormed (sumsAt i ns ws cs) (product a b)) ps ds ps' ds' answer
+  term-made r one is answer e =
+      product-made _ _ answer (factors-product r)
+      (e
+      ∙ ap (λ (z : ℤ). formedInto (formed (dropZeros (row (term z (exponents (getD ws (mostTerms * a) 0))) (terms (readAt b (getD ns b 0) ws) (readAt b (getD ns b 0) cs))))) ps ds) is
+      ∙ ap (λ (x : Formed Sum). formedInto x ps ds) (only-formed r one))
+
+module _ (i : ℕ) {f : Formed Sum} (ws : List ℕ) (cs : List ℤ) {ps : List ℕ} {ds : List ℤ} {ps' : List ℕ} {ds' : List ℤ} {answer : declared.Formed} (m : Made f ps ds ps' ds' answer) where
   -- a refusal leaves the areas
   pub put-none : OneOf (1 ∷ []) (tagOf the-type answer) → FormedAt i f (formedOf answer) ws cs ws cs
-  unfolding sumOf formedInto
+  unfolding formedInto
   put-none other =
-      let told = refused (sumSpread s t) (s ⊕ t) ps ds ps' ds' answer other e in
-      let none : f ≡ over = sym is ∙ within-no (sumSpread s t) (s ⊕ t) (told .1) in
+      let told = refused (m .spread) (m .made) ps ds ps' ds' answer other (m .told) in
+      let none : f ≡ over = sym (m .is) ∙ within-no (m .spread) (m .made) (told .1) in
       record { in-part = rw (told .0, none) refl; words-before = refl; words-after = refl; coefficients-before = refl; coefficients-after = refl }
 
   module _ {n : ℕ} (some : answer ≡ Terms n) where
-    formed-there : Given (sumSpread s t) (s ⊕ t) ps ds ps' ds' n
-    unfolding sumOf
-    formed-there = given (sumSpread s t) (s ⊕ t) ps ds ps' ds' answer some e
+    there : Given (m .spread) (m .made) ps ds ps' ds' n
+    there = given (m .spread) (m .made) ps ds ps' ds' answer some (m .told)
 
-    pub put-few : n ≤ mostTerms
-    put-few = omega (arith, formed-there .few, formed-there .many, sum-length s t)
+    words-front : (take n ps' ≡ wordsOf (m .made)) × (n ≤ length ps')
+    words-front = written-front (wordsOf (m .made)) ps (there .words-are) (length-map (m .made) _ ∙ there .many)
 
-    words-front : (take n ps' ≡ wordsOf (s ⊕ t)) × (n ≤ length ps')
-    words-front = written-front (wordsOf (s ⊕ t)) ps (formed-there .words-are) (length-map (s ⊕ t) _ ∙ formed-there .many)
+    coefficients-front : (take n ds' ≡ coefficientsOf (m .made)) × (n ≤ length ds')
+    coefficients-front = written-front (coefficientsOf (m .made)) ds (there .coefficients-are) (length-map (m .made) _ ∙ there .many)
 
-    coefficients-front : (take n ds' ≡ coefficientsOf (s ⊕ t)) × (n ≤ length ds')
-    coefficients-front = written-front (coefficientsOf (s ⊕ t)) ds (formed-there .coefficients-are) (length-map (s ⊕ t) _ ∙ formed-there .many)
-
-    pub put-inside : (n ≤ length ps') × (n ≤ length ds')
-    put-inside = (words-front .1, coefficients-front .1)
+    pub put-few : (n ≤ mostTerms) × ((n ≤ length ps') × (n ≤ length ds'))
+    put-few = (omega (arith, there .few, there .many, m .small), (words-front .1, coefficients-front .1))
 
     pub put-formed : {ws' : List ℕ} {cs' : List ℤ} → PutAt i (take n ps') ws ws' → PutAt i (take n ds') cs cs' → FormedAt i f (formed n) ws cs ws' cs'
-    unfolding sumOf formedInto
+    unfolding formedInto
     put-formed words coefficients =
-        let all : f ≡ formed (s ⊕ t) = sym is ∙ within-yes (sumSpread s t) (s ⊕ t) (formed-there .few) in
+        let all : f ≡ formed (m .made) = sym (m .is) ∙ within-yes (m .spread) (m .made) (there .few) in
         record {
-          in-part = rw (all, words .in-part, coefficients .in-part, words-front .0, coefficients-front .0, formed-there .many) refl;
+          in-part = rw (all, words .in-part, coefficients .in-part, words-front .0, coefficients-front .0, there .many) refl;
           words-before = words .before;
           words-after = words .after;
           coefficients-before = coefficients .before;

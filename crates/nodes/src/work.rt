@@ -159,55 +159,8 @@ fn product_by(
     )
 }
 
-// The same, where the first of the two has few terms. Arrays are small for an operand with few terms: to clear large ones would take longer than to form the product.
-fn few_product(
-    a: usize,
-    b: usize,
-    i: usize,
-    counts: &[usize],
-    patterns: &mut [u64],
-    coefficients: &mut [i64],
-) -> Formed
-    requires { ⌜ Ready i (now counts) (now patterns) (now coefficients) (product a b) ⌝ }
-    requires { ⌜ getD (now counts) a 0 ≤ 8 ⌝ }
-    ensures { λ r. ⌜ FormedAt i (nodeFormed (sumsAt i (now (counts .entry)) (now (patterns .entry)) (now (coefficients .entry))) (product a b)) (formedOf r) (now (patterns .entry)) (now (coefficients .entry)) (now (patterns .exit)) (now (coefficients .exit)) ⌝ }
-{
-    let mut sp = [0u64; FEW_TERMS];
-    let mut sc = [0i64; FEW_TERMS];
-    if counts[b] <= FEW_TERMS {
-        let mut tp = [0u64; FEW_TERMS];
-        let mut tc = [0i64; FEW_TERMS];
-        return product_by(
-            a,
-            b,
-            i,
-            counts,
-            &mut sp,
-            &mut sc,
-            &mut tp,
-            &mut tc,
-            patterns,
-            coefficients,
-        );
-    }
-    let mut tp = [0u64; MOST_TERMS];
-    let mut tc = [0i64; MOST_TERMS];
-    product_by(
-        a,
-        b,
-        i,
-        counts,
-        &mut sp,
-        &mut sc,
-        &mut tp,
-        &mut tc,
-        patterns,
-        coefficients,
-    )
-}
-
-// The product of two earlier nodes, into the part of node i.
-fn form_product(
+// The same, by way of small arrays if both operands are small: to clear large ones would take longer than to form the product.
+fn copied_product(
     a: usize,
     b: usize,
     i: usize,
@@ -219,7 +172,24 @@ fn form_product(
     ensures { λ r. ⌜ FormedAt i (nodeFormed (sumsAt i (now (counts .entry)) (now (patterns .entry)) (now (coefficients .entry))) (product a b)) (formedOf r) (now (patterns .entry)) (now (coefficients .entry)) (now (patterns .exit)) (now (coefficients .exit)) ⌝ }
 {
     if counts[a] <= FEW_TERMS {
-        return few_product(a, b, i, counts, patterns, coefficients);
+        if counts[b] <= FEW_TERMS {
+            let mut sp = [0u64; FEW_TERMS];
+            let mut sc = [0i64; FEW_TERMS];
+            let mut tp = [0u64; FEW_TERMS];
+            let mut tc = [0i64; FEW_TERMS];
+            return product_by(
+                a,
+                b,
+                i,
+                counts,
+                &mut sp,
+                &mut sc,
+                &mut tp,
+                &mut tc,
+                patterns,
+                coefficients,
+            );
+        }
     }
     let mut sp = [0u64; MOST_TERMS];
     let mut sc = [0i64; MOST_TERMS];
@@ -237,6 +207,84 @@ fn form_product(
         patterns,
         coefficients,
     )
+}
+
+// The product of an earlier node of one term with another one, into the part of node i, by way of two arrays that have room for it: as for a sum, the operands are read where they stand.
+fn term_product_by(
+    a: usize,
+    b: usize,
+    i: usize,
+    counts: &[usize],
+    sp: &mut [u64],
+    sc: &mut [i64],
+    patterns: &mut [u64],
+    coefficients: &mut [i64],
+) -> Formed
+    requires { ⌜ Ready i (now counts) (now patterns) (now coefficients) (product a b) ⌝ }
+    requires { ⌜ getD (now counts) a 0 ≡ 1 ⌝ }
+    requires { ⌜ RoomOf (getD (now counts) b 0) (now sp) (now sc) ⌝ }
+    ensures { λ r. ⌜ FormedAt i (nodeFormed (sumsAt i (now (counts .entry)) (now (patterns .entry)) (now (coefficients .entry))) (product a b)) (formedOf r) (now (patterns .entry)) (now (coefficients .entry)) (now (patterns .exit)) (now (coefficients .exit)) ⌝ }
+{
+    let p = MOST_TERMS * a;
+    let q = MOST_TERMS * b;
+    let q_end = q + counts[b];
+    let c = coefficients[p];
+    let formed = sums::multiply_by_term(
+        patterns[p],
+        c,
+        &patterns[q..q_end],
+        &coefficients[q..q_end],
+        sp,
+        sc,
+    );
+    let Formed::Terms(count) = formed else {
+        return formed;
+    };
+    put_terms(i, count, sp, sc, patterns, coefficients);
+    formed
+}
+
+fn term_product(
+    a: usize,
+    b: usize,
+    i: usize,
+    counts: &[usize],
+    patterns: &mut [u64],
+    coefficients: &mut [i64],
+) -> Formed
+    requires { ⌜ Ready i (now counts) (now patterns) (now coefficients) (product a b) ⌝ }
+    requires { ⌜ getD (now counts) a 0 ≡ 1 ⌝ }
+    ensures { λ r. ⌜ FormedAt i (nodeFormed (sumsAt i (now (counts .entry)) (now (patterns .entry)) (now (coefficients .entry))) (product a b)) (formedOf r) (now (patterns .entry)) (now (coefficients .entry)) (now (patterns .exit)) (now (coefficients .exit)) ⌝ }
+{
+    if counts[b] <= FEW_TERMS {
+        let mut sp = [0u64; FEW_TERMS];
+        let mut sc = [0i64; FEW_TERMS];
+        return term_product_by(a, b, i, counts, &mut sp, &mut sc, patterns, coefficients);
+    }
+    let mut sp = [0u64; MOST_TERMS];
+    let mut sc = [0i64; MOST_TERMS];
+    term_product_by(a, b, i, counts, &mut sp, &mut sc, patterns, coefficients)
+}
+
+// The product of two earlier nodes, into the part of node i. With an operand of one term, and most products have one, no operand has to be copied.
+fn form_product(
+    a: usize,
+    b: usize,
+    i: usize,
+    counts: &[usize],
+    patterns: &mut [u64],
+    coefficients: &mut [i64],
+) -> Formed
+    requires { ⌜ Ready i (now counts) (now patterns) (now coefficients) (product a b) ⌝ }
+    ensures { λ r. ⌜ FormedAt i (nodeFormed (sumsAt i (now (counts .entry)) (now (patterns .entry)) (now (coefficients .entry))) (product a b)) (formedOf r) (now (patterns .entry)) (now (coefficients .entry)) (now (patterns .exit)) (now (coefficients .exit)) ⌝ }
+{
+    if counts[a] == 1 {
+        return term_product(a, b, i, counts, patterns, coefficients);
+    }
+    if counts[b] == 1 {
+        return term_product(b, a, i, counts, patterns, coefficients);
+    }
+    copied_product(a, b, i, counts, patterns, coefficients)
 }
 
 // A power, into the part of node i, by way of two arrays that have room for the base.
