@@ -1,6 +1,7 @@
 -- `form_product` meets its contract: the operands may be turned.
 use native.Mathlib.Omega.{arith}
-use Rattle.nodes.proofs.Working.{factors-there, ready-turned, formed-turned, renamed}
+use Rattle.nodes.proofs.Working.{renamed}
+use Rattle.nodes.proofs.Putting.{factors-there, ready-turned, formed-turned}
 use borrow.Author.Needs.{needs}
 use Rattle.nodes.proofs.work.form_product.Statement.{statement}
 use Rattle.nodes.proofs.work.form_product.Tie as tie

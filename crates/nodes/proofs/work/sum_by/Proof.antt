@@ -1,7 +1,7 @@
 -- `sum_by` meets its contract: its operands are the sums of two earlier nodes, where they stand, and what they give is put into the part of node i.
 use mathlib.Core.List.{[]}
 use native.Mathlib.Omega.{arith}
-use Rattle.nodes.proofs.Working.{addends-there, addends, addends-room, addends-made, put-none, put-few, put-formed}
+use Rattle.nodes.proofs.Putting.{addends-there, addends, addends-room, addends-made, put-none, put-few, put-formed}
 use borrow.Author.Needs.{needs}
 use Rattle.nodes.proofs.work.sum_by.Statement.{statement}
 use Rattle.nodes.proofs.work.sum_by.Tie as tie

@@ -1,6 +1,6 @@
 -- `term_product` meets its contract: in both cases the arrays have room for the product.
 use native.Mathlib.Omega.{arith}
-use Rattle.nodes.proofs.Working.{factors-there}
+use Rattle.nodes.proofs.Putting.{factors-there}
 use borrow.Author.Needs.{needs}
 use Rattle.nodes.proofs.work.term_product.Statement.{statement}
 use Rattle.nodes.proofs.work.term_product.Tie as tie

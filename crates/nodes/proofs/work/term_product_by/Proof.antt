@@ -3,7 +3,7 @@ use mathlib.Core.List.{[]}
 use native.Mathlib.Omega.{arith}
 use mir.Syntax.{w64}
 use mir.ValLaws.{toZ-ofZ}
-use Rattle.nodes.proofs.Working.{factors-there, only-term, second-room, term-made, put-none, put-few, put-formed}
+use Rattle.nodes.proofs.Putting.{factors-there, only-term, second-room, term-made, put-none, put-few, put-formed}
 use borrow.Author.Needs.{needs}
 use Rattle.nodes.proofs.work.term_product_by.Statement.{statement}
 use Rattle.nodes.proofs.work.term_product_by.Tie as tie
