@@ -3,4 +3,5 @@ pub mod Reading
 pub mod Formally
 pub mod Spelled
 pub mod Working
+pub mod Putting
 pub mod Unique

@@ -1,45 +1,32 @@
 -- A node's sum, formed of earlier sums that are kept in the parts of the work areas.
 use mathlib.Core.Path.{_≡_, refl, sym, _∙_, ap, ap₂, subst}
 use mathlib.Core.List.{List, [], _∷_, _++_, map}
-use Prim.Native.Nat.{ℕ, zero, suc, _+_, _*_, _-_, _^_, _≤_, _<_}
+use Prim.Native.Nat.{ℕ, zero, suc, _+_, _*_, _^_, _≤_, _<_}
 use native.Mathlib.Omega.{arith}
 use native.Mathlib.Numerals.{add-one}
 use native.Mathlib.Decide.{decLt}
 use lib.Dec.{T}
 use lib.IntN.{ℤ}
-use lib.ListN.{length, getD, take, drop, length-append, length-map, List·getD-append, List·getD-map}
+use lib.ListN.{length, getD, take, length-append, List·getD-append, List·getD-map}
 use lib.Seq.{getD-at, length-take-le}
 use borrow.Rule.Slice.PartMut.{midOf, putMid}
-use types.Run.{OneOf}
-use denote.Enum.Declared.{tagOf}
 use Rattle.algebra.specs.Limits.{variables, largestDegree, mostTerms, largestWeight, mostNodes, workPlaces}
 use Rattle.algebra.specs.Sum.{Sum, noZero, degreeOf, weight}
 use Rattle.algebra.specs.Arithmetic as arithmetic
-use Rattle.algebra.specs.Arithmetic.{_⊕_, sumSpread}
-use Rattle.algebra.specs.Word.{terms}
-use Rattle.algebra.specs.Held.{wordsOf, coefficientsOf, firstTerms}
+use Rattle.algebra.specs.Held.{firstTerms}
 use Rattle.algebra.proofs.Sums.Ordered.{parts}
-use Rattle.algebra.proofs.Sums.Results.{sum-length}
 use Rattle.answers.specs.Areas.{written}
-use Rattle.answers.proofs.Writes.{written-front}
-use Rattle.sums.specs.Held.{HeldSum}
-use Rattle.sums.specs.Asked.{Room, RoomOf, Addends}
-use Rattle.sums.specs.Formed.{Formed, formedOf, Formed.formed, Formed.over, within, formedInto, sumOf, productOf, powerOf}
-use Rattle.sums.specs.declared.Formed as declared
-use Rattle.sums.specs.declared.Formed.the-variants.{Terms}
-use Rattle.sums.proofs.Formed.{the-type}
+use Rattle.sums.specs.Asked.{Room}
+use Rattle.sums.specs.Formed.{Formed, Formed.formed, within, formedInto, sumOf, productOf, powerOf}
 use Rattle.nodes.specs.declared.Kind as code
 use Rattle.nodes.specs.Node.{Kind, Kind.integer, Kind.variable, Kind.sum, Kind.product, Kind.power}
 use Rattle.nodes.specs.Inside.Code.{kindOf}
 use Rattle.nodes.specs.Formal.{formalDegree, formalWeight, nodeSpread, nodeSum}
 use Rattle.sums.proofs.Holding.{terms-many, holdable}
-use Rattle.sums.proofs.Forming.{within-yes, within-no}
-use Rattle.sums.proofs.Answering.{Known, given, refused}
 use Rattle.sums.proofs.Fronts.{Placed, placed-written, placed-is}
 use Rattle.sums.specs.Part.{part}
-use Rattle.nodes.specs.Inside.Work.{sumAt, sumsAt, Keeps, nodeFormed, FormedAt, Ready, PutAt}
-use Rattle.nodes.proofs.Formally.{two-children}
-use Rattle.sums.proofs.Parts.{span, lent, lent-front, lent-length, part-length, part-put, before-put, after-put}
+use Rattle.nodes.specs.Inside.Work.{sumAt, sumsAt, Keeps, nodeFormed, FormedAt, Ready}
+use Rattle.sums.proofs.Parts.{span, lent, lent-length, part-length, part-put, before-put, after-put}
 
 -- ---- Operands.
 
@@ -157,106 +144,6 @@ operand-full {i} {ns} {ws} {cs} k a before f = rw (placed-is f) (parts variables
 -- what was formed, by another name
 pub renamed : {i : ℕ} {f g : Formed Sum} {answer : Formed ℕ} {ws ws' : List ℕ} {cs cs' : List ℤ} → g ≡ f → FormedAt i g answer ws cs ws' cs' → FormedAt i f answer ws cs ws' cs'
 renamed {i} {f} {g} {answer} {ws} {ws'} {cs} {cs'} e h = subst (λ (x : Formed Sum). FormedAt i x answer ws cs ws' cs') e h
-
--- ---- Operands that are read where they stand, and their sum.
-
--- the first n places of the part of node a, as the code computes its length
-abbrev pub readAt : {A : Type 0} → ℕ → ℕ → List A → List A
-readAt a n xs = take (mostTerms * a + n - mostTerms * a) (drop (mostTerms * a) xs)
-
-module _ {i : ℕ} {ns : List ℕ} {ws : List ℕ} {cs : List ℤ} {k : Kind} (r : Ready i ns ws cs k) (a : ℕ) (before : a < i) where
-  abbrev n : ℕ
-  n = getD ns a 0
-
-  words-there : readAt a n ws ≡ take n (part a ws)
-  words-there = lent-front a n (r .keeps .few a before) ws
-
-  coefficients-there : readAt a n cs ≡ take n (part a cs)
-  coefficients-there = lent-front a n (r .keeps .few a before) cs
-
-  pub read-held : HeldSum (readAt a (getD ns a 0) ws) (readAt a (getD ns a 0) cs)
-  read-held = rw (words-there, coefficients-there) (r .keeps .holds a before)
-
-  pub read-is : terms (readAt a (getD ns a 0) ws) (readAt a (getD ns a 0) cs) ≡ getD (sumsAt i ns ws cs) a []
-  read-is = ap₂ terms words-there coefficients-there ∙ sym (sum-there ns ws cs i a before)
-
-  pub read-many : length (readAt a (getD ns a 0) ws) ≡ getD ns a 0
-  read-many =
-      ap length words-there
-      ∙ length-take-le n (part a ws) (omega (arith, part-length a ws (omega (arith, r .words-room, r .inside)), r .keeps .few a before))
-
-module _ {i a b : ℕ} {ns : List ℕ} {ws : List ℕ} {cs : List ℤ} (r : Ready i ns ws cs (sum a b)) where
-  pub addends-there : (a < i) × (b < i)
-  addends-there = two-children i a b (r .is-node)
-
-  pub addends : Addends (readAt a (getD ns a 0) ws) (readAt a (getD ns a 0) cs) (readAt b (getD ns b 0) ws) (readAt b (getD ns b 0) cs)
-  addends =
-      let h = addends-there in
-      record {
-        first = read-held r a (h .0);
-        second = read-held r b (h .1);
-        light = addends-light (sumsAt i ns ws cs) a b (read-is r a (h .0)) (read-is r b (h .1)) (r .light);
-      }
-
-  pub addends-room : {ps : List ℕ} {ds : List ℤ} → RoomOf (getD ns a 0 + getD ns b 0) ps ds → RoomOf (length (readAt a (getD ns a 0) ws) + length (readAt b (getD ns b 0) ws)) ps ds
-  addends-room room =
-      let h = addends-there in
-      rw (read-many r a (h .0), read-many r b (h .1)) room
-
-  pub addends-sum : sumOf (terms (readAt a (getD ns a 0) ws) (readAt a (getD ns a 0) cs)) (terms (readAt b (getD ns b 0) ws) (readAt b (getD ns b 0) cs)) ≡ nodeFormed (sumsAt i ns ws cs) (sum a b)
-  addends-sum = let h = addends-there in addends-formed (sumsAt i ns ws cs) a b (read-is r a (h .0)) (read-is r b (h .1))
-
--- ---- A sum that was formed in two arrays, and put into the part of node i: ps and ds are the arrays before, ps' and ds' after.
-
-module _ (i : ℕ) (s t : Sum) {f : Formed Sum} (is : sumOf s t ≡ f) (ws : List ℕ) (cs : List ℤ) (ps : List ℕ) (ds : List ℤ) (ps' : List ℕ) (ds' : List ℤ) (answer : declared.Formed)
-    (e : (formedOf answer, ps', ds') ≡ formedInto (sumOf s t) ps ds) where
-  -- a refusal leaves the areas
-  pub put-none : OneOf (1 ∷ []) (tagOf the-type answer) → FormedAt i f (formedOf answer) ws cs ws cs
-  unfolding sumOf formedInto
-  put-none other =
-      let told = refused (sumSpread s t) (s ⊕ t) ps ds ps' ds' answer other e in
-      let none : f ≡ over = sym is ∙ within-no (sumSpread s t) (s ⊕ t) (told .1) in
-      record { in-part = rw (told .0, none) refl; words-before = refl; words-after = refl; coefficients-before = refl; coefficients-after = refl }
-
-  module _ {n : ℕ} (some : answer ≡ Terms n) where
-    formed-there : Known (sumSpread s t) (s ⊕ t) ps ds ps' ds' n
-    unfolding sumOf
-    formed-there = given (sumSpread s t) (s ⊕ t) ps ds ps' ds' answer some e
-
-    pub put-few : n ≤ mostTerms
-    put-few = omega (arith, formed-there .few, formed-there .many, sum-length s t)
-
-    words-front : (take n ps' ≡ wordsOf (s ⊕ t)) × (n ≤ length ps')
-    words-front = written-front (wordsOf (s ⊕ t)) ps (formed-there .words-are) (length-map (s ⊕ t) _ ∙ formed-there .many)
-
-    coefficients-front : (take n ds' ≡ coefficientsOf (s ⊕ t)) × (n ≤ length ds')
-    coefficients-front = written-front (coefficientsOf (s ⊕ t)) ds (formed-there .coefficients-are) (length-map (s ⊕ t) _ ∙ formed-there .many)
-
-    pub put-inside : (n ≤ length ps') × (n ≤ length ds')
-    put-inside = (words-front .1, coefficients-front .1)
-
-    pub put-formed : {ws' : List ℕ} {cs' : List ℤ} → PutAt i (take n ps') ws ws' → PutAt i (take n ds') cs cs' → FormedAt i f (formed n) ws cs ws' cs'
-    unfolding sumOf formedInto
-    put-formed words coefficients =
-        let all : f ≡ formed (s ⊕ t) = sym is ∙ within-yes (sumSpread s t) (s ⊕ t) (formed-there .few) in
-        record {
-          in-part = rw (all, words .in-part, coefficients .in-part, words-front .0, coefficients-front .0, formed-there .many) refl;
-          words-before = words .before;
-          words-after = words .after;
-          coefficients-before = coefficients .before;
-          coefficients-after = coefficients .after;
-        }
-
--- values that were copied to the part, which was lent for them
-pub put-at : {A : Type 0} (i : ℕ) (values xs : List A) → mostTerms * suc i ≤ length xs → {ys : List A} → length ys ≡ length (midOf (mostTerms * i) (span i) xs)
-    → ys ≡ written values (midOf (mostTerms * i) (span i) xs) → PutAt i values xs (putMid (mostTerms * i) (span i) xs ys)
-put-at i values xs room {ys} same e =
-    let many : length ys ≡ mostTerms = same ∙ ap length (lent i xs) ∙ part-length i xs room in
-    record {
-      in-part = part-put i xs room ys many ∙ e ∙ ap (written values) (lent i xs);
-      before = before-put i xs room ys many;
-      after = after-put i xs room ys many;
-    }
 
 -- ---- The kind that was matched.
 

@@ -1,4 +1,6 @@
-// The sum of a node, formed of the sums of earlier nodes, in the work areas.
+// The sum of a node, formed of the sums of earlier nodes, in the work areas. Whatever the node is, its terms are written through the part of both areas that starts at 128 × its index and is lent
+// on for them. While a part is lent to be written, no other part of that area can be read. So the operands of products and powers are copied to arrays, and what they give is formed in the lent part;
+// but a sum, and a product with a node of one term, which most nodes are, is formed in arrays, of operands that are read where they stand, and is then put into the lent part.
 use crate::Kind;
 use algebra::MOST_TERMS;
 use answers::areas;
@@ -15,13 +17,13 @@ ghost use Rattle.nodes.specs.Inside.Code.{kindOf};
 ghost use Rattle.sums.specs.Part.{part};
 ghost use Rattle.nodes.specs.Inside.Work.{sumsAt, nodeFormed, Ready, FormedAt, PutAt};
 
-// Where a few terms are copied.
+// Where an operand of few terms is copied.
 const FEW_TERMS: usize = 8;
 
-// Where a sum of a few is formed.
+// Where a sum of few terms is formed, before it is put into a part.
 const FEW_PLACES: usize = 16;
 
-// The n terms of an earlier node, copied to arrays: two parts of one area cannot be lent at once.
+// The n terms of an earlier node, copied to arrays.
 fn copy_operand(
     node: usize,
     n: usize,
@@ -44,7 +46,7 @@ fn copy_operand(
     areas::copy_coefficients(sc, &coefficients[start..end], n);
 }
 
-// Terms that were formed elsewhere, into the part of node i.
+// Terms that were formed in arrays, put into the part of node i.
 fn put_terms(
     i: usize,
     count: usize,
@@ -67,8 +69,7 @@ fn put_terms(
     areas::copy_coefficients(&mut coefficients[start..end], sc, count);
 }
 
-// The sum of two earlier nodes, into the part of node i, by way of two arrays that have room for it. The operands are read where they stand, and as long as they are, no part of the areas can
-// be lent to be written.
+// The sum of two earlier nodes, into the part of node i, by way of two arrays that have room for it.
 fn sum_by(
     a: usize,
     b: usize,
@@ -160,55 +161,8 @@ fn product_by(
     )
 }
 
-// The same, where the first of the two has few terms. Arrays are small for an operand with few terms: to clear large ones would take longer than to form the product.
-fn few_product(
-    a: usize,
-    b: usize,
-    i: usize,
-    counts: &[usize],
-    patterns: &mut [u64],
-    coefficients: &mut [i64],
-) -> Formed
-    requires { ⌜ Ready i (now counts) (now patterns) (now coefficients) (product a b) ⌝ }
-    requires { ⌜ getD (now counts) a 0 ≤ 8 ⌝ }
-    ensures { λ r. ⌜ FormedAt i (nodeFormed (sumsAt i (now (counts .entry)) (now (patterns .entry)) (now (coefficients .entry))) (product a b)) (formedOf r) (now (patterns .entry)) (now (coefficients .entry)) (now (patterns .exit)) (now (coefficients .exit)) ⌝ }
-{
-    let mut sp = [0u64; FEW_TERMS];
-    let mut sc = [0i64; FEW_TERMS];
-    if counts[b] <= FEW_TERMS {
-        let mut tp = [0u64; FEW_TERMS];
-        let mut tc = [0i64; FEW_TERMS];
-        return product_by(
-            a,
-            b,
-            i,
-            counts,
-            &mut sp,
-            &mut sc,
-            &mut tp,
-            &mut tc,
-            patterns,
-            coefficients,
-        );
-    }
-    let mut tp = [0u64; MOST_TERMS];
-    let mut tc = [0i64; MOST_TERMS];
-    product_by(
-        a,
-        b,
-        i,
-        counts,
-        &mut sp,
-        &mut sc,
-        &mut tp,
-        &mut tc,
-        patterns,
-        coefficients,
-    )
-}
-
-// The product of two earlier nodes, into the part of node i.
-fn form_product(
+// The same, by way of small arrays if both operands are small: to clear large ones would take longer than to form the product.
+fn copied_product(
     a: usize,
     b: usize,
     i: usize,
@@ -220,7 +174,24 @@ fn form_product(
     ensures { λ r. ⌜ FormedAt i (nodeFormed (sumsAt i (now (counts .entry)) (now (patterns .entry)) (now (coefficients .entry))) (product a b)) (formedOf r) (now (patterns .entry)) (now (coefficients .entry)) (now (patterns .exit)) (now (coefficients .exit)) ⌝ }
 {
     if counts[a] <= FEW_TERMS {
-        return few_product(a, b, i, counts, patterns, coefficients);
+        if counts[b] <= FEW_TERMS {
+            let mut sp = [0u64; FEW_TERMS];
+            let mut sc = [0i64; FEW_TERMS];
+            let mut tp = [0u64; FEW_TERMS];
+            let mut tc = [0i64; FEW_TERMS];
+            return product_by(
+                a,
+                b,
+                i,
+                counts,
+                &mut sp,
+                &mut sc,
+                &mut tp,
+                &mut tc,
+                patterns,
+                coefficients,
+            );
+        }
     }
     let mut sp = [0u64; MOST_TERMS];
     let mut sc = [0i64; MOST_TERMS];
@@ -238,6 +209,85 @@ fn form_product(
         patterns,
         coefficients,
     )
+}
+
+// The product of an earlier node of one term with another one, into the part of node i, by way of two arrays that have room for it.
+fn term_product_by(
+    a: usize,
+    b: usize,
+    i: usize,
+    counts: &[usize],
+    sp: &mut [u64],
+    sc: &mut [i64],
+    patterns: &mut [u64],
+    coefficients: &mut [i64],
+) -> Formed
+    requires { ⌜ Ready i (now counts) (now patterns) (now coefficients) (product a b) ⌝ }
+    requires { ⌜ getD (now counts) a 0 ≡ 1 ⌝ }
+    requires { ⌜ RoomOf (getD (now counts) b 0) (now sp) (now sc) ⌝ }
+    ensures { λ r. ⌜ FormedAt i (nodeFormed (sumsAt i (now (counts .entry)) (now (patterns .entry)) (now (coefficients .entry))) (product a b)) (formedOf r) (now (patterns .entry)) (now (coefficients .entry)) (now (patterns .exit)) (now (coefficients .exit)) ⌝ }
+{
+    let p = MOST_TERMS * a;
+    let q = MOST_TERMS * b;
+    let q_end = q + counts[b];
+    let c = coefficients[p];
+    let formed = sums::multiply_by_term(
+        patterns[p],
+        c,
+        &patterns[q..q_end],
+        &coefficients[q..q_end],
+        sp,
+        sc,
+    );
+    let Formed::Terms(count) = formed else {
+        return formed;
+    };
+    put_terms(i, count, sp, sc, patterns, coefficients);
+    formed
+}
+
+// The same, by way of small arrays if the other one has few terms.
+fn term_product(
+    a: usize,
+    b: usize,
+    i: usize,
+    counts: &[usize],
+    patterns: &mut [u64],
+    coefficients: &mut [i64],
+) -> Formed
+    requires { ⌜ Ready i (now counts) (now patterns) (now coefficients) (product a b) ⌝ }
+    requires { ⌜ getD (now counts) a 0 ≡ 1 ⌝ }
+    ensures { λ r. ⌜ FormedAt i (nodeFormed (sumsAt i (now (counts .entry)) (now (patterns .entry)) (now (coefficients .entry))) (product a b)) (formedOf r) (now (patterns .entry)) (now (coefficients .entry)) (now (patterns .exit)) (now (coefficients .exit)) ⌝ }
+{
+    if counts[b] <= FEW_PLACES {
+        let mut sp = [0u64; FEW_PLACES];
+        let mut sc = [0i64; FEW_PLACES];
+        return term_product_by(a, b, i, counts, &mut sp, &mut sc, patterns, coefficients);
+    }
+    let mut sp = [0u64; MOST_TERMS];
+    let mut sc = [0i64; MOST_TERMS];
+    term_product_by(a, b, i, counts, &mut sp, &mut sc, patterns, coefficients)
+}
+
+// The product of two earlier nodes, into the part of node i. Either of them may be the one of one term: the product is the same.
+fn form_product(
+    a: usize,
+    b: usize,
+    i: usize,
+    counts: &[usize],
+    patterns: &mut [u64],
+    coefficients: &mut [i64],
+) -> Formed
+    requires { ⌜ Ready i (now counts) (now patterns) (now coefficients) (product a b) ⌝ }
+    ensures { λ r. ⌜ FormedAt i (nodeFormed (sumsAt i (now (counts .entry)) (now (patterns .entry)) (now (coefficients .entry))) (product a b)) (formedOf r) (now (patterns .entry)) (now (coefficients .entry)) (now (patterns .exit)) (now (coefficients .exit)) ⌝ }
+{
+    if counts[a] == 1 {
+        return term_product(a, b, i, counts, patterns, coefficients);
+    }
+    if counts[b] == 1 {
+        return term_product(b, a, i, counts, patterns, coefficients);
+    }
+    copied_product(a, b, i, counts, patterns, coefficients)
 }
 
 // A power, into the part of node i, by way of two arrays that have room for the base.
@@ -290,7 +340,7 @@ fn form_power(
     power_by(a, e, i, counts, &mut sp, &mut sc, patterns, coefficients)
 }
 
-// The terms of node i: the part of both work areas that starts at 128 × i is lent on for them.
+// The terms of node i: the part of both work areas that starts at 128 × i is lent on for them, whatever its kind.
 pub fn form(
     kind: Kind,
     i: usize,

@@ -21,7 +21,7 @@ use Rattle.algebra.proofs.Patterns.Laws.{times-length}
 use Rattle.algebra.proofs.Patterns.Word.{exponents-length}
 use Rattle.algebra.proofs.Sums.Ordered.{gather-fixed}
 use Rattle.algebra.proofs.Sums.Occurs.{spread-gather}
-use Rattle.sums.specs.Asked.{Factors}
+use Rattle.sums.specs.Asked.{RoomOf, Factors}
 use Rattle.sums.specs.Formed.{Formed.formed, within, productOf, formedInto}
 use Rattle.sums.specs.Rows.{HasTerm}
 use Rattle.sums.proofs.Holding.{map-at, as-many, terms-many, terms-next, degree-at, size-at, each-valid, Holdable, spells, holds, holdable}
@@ -79,8 +79,10 @@ module _ {w : ℕ} {c : ℤ} {tp : List ℕ} {tc : List ℤ} {ws₀ : List ℕ} 
       → ByTerm w c tp tc ws₀ cs₀ ws cs count k
   by-term g f = record { has = g; so-far = f; many = row-many g; as-many = as-many (g .factor) }
 
-  pub start : HasTerm w c tp tc → mostTerms ≤ length ws₀ → mostTerms ≤ length cs₀ → ByTerm w c tp tc ws₀ cs₀ ws₀ cs₀ 0 0
-  start g words-room coefficients-room = by-term g (finishing.start _ _ ws₀ cs₀ (holds (row-holdable g)) words-room coefficients-room)
+  pub start : HasTerm w c tp tc → RoomOf (length tp) ws₀ cs₀ → ByTerm w c tp tc ws₀ cs₀ ws₀ cs₀ 0 0
+  start g room =
+      by-term g
+      (finishing.start _ _ ws₀ cs₀ (holds (row-holdable g)) (omega (arith, row-many g, g .factor .few, room .words)) (omega (arith, row-many g, g .factor .few, room .coefficients)))
 
   module _ {ws : List ℕ} {cs : List ℤ} {count k : ℕ} (b : ByTerm w c tp tc ws₀ cs₀ ws cs count k) where
     module _ (h : k < length tp) where

@@ -7,7 +7,6 @@ use native.Mathlib.Omega.{arith}
 use lib.IntN.{ℤ, pos}
 use lib.ListN.{length, getD, take, set, length-append}
 use lib.Seq.{take-all}
-use Rattle.algebra.specs.Limits.{mostTerms}
 use Rattle.algebra.specs.Sum.{Term, term, Sum, isZero}
 use Rattle.algebra.specs.Collect.{keep, dropZeros}
 use Rattle.algebra.specs.Word.{exponents, terms}
@@ -46,10 +45,10 @@ pub record Finishing (ws : List ℕ) (cs : List ℤ) (ws₀ : List ℕ) (cs₀ :
   pub fewer : count ≤ k
   pub held : Held ws cs
   pub inside : k ≤ length ws
-  pub words-room : mostTerms ≤ length ws₀
-  pub coefficients-room : mostTerms ≤ length cs₀
+  pub words-room : length ws ≤ length ws₀
+  pub coefficients-room : length ws ≤ length cs₀
 
-pub start : (ws : List ℕ) (cs : List ℤ) (ws₀ : List ℕ) (cs₀ : List ℤ) → Held ws cs → mostTerms ≤ length ws₀ → mostTerms ≤ length cs₀ → Finishing ws cs ws₀ cs₀ ws₀ cs₀ 0 0
+pub start : (ws : List ℕ) (cs : List ℤ) (ws₀ : List ℕ) (cs₀ : List ℤ) → Held ws cs → length ws ≤ length ws₀ → length ws ≤ length cs₀ → Finishing ws cs ws₀ cs₀ ws₀ cs₀ 0 0
 unfolding dropZeros
 start ws cs ws₀ cs₀ held words-room coefficients-room = record {
   stored = stored-none ws₀ cs₀;
@@ -86,7 +85,7 @@ module _ {ws : List ℕ} {cs : List ℤ} {ws₀ : List ℕ} {cs₀ : List ℤ} {
         record {
           stored = rw more
               (stored-next (f .stored) t count (getD ws k 0) (getD cs k (pos 0)) (f .many)
-              (omega (arith, f .fewer, f .words-room, f .held .few)) (omega (arith, f .fewer, f .coefficients-room, f .held .few)) word refl);
+              (omega (arith, f .fewer, f .words-room)) (omega (arith, f .fewer, f .coefficients-room)) word refl);
           many = ap length more ∙ length-append kept (t ∷ []) ∙ ap (λ (n : ℕ). n + 1) (f .many);
           fewer = omega (arith, f .fewer);
           held = f .held;

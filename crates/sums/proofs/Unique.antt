@@ -12,6 +12,7 @@ use Rattle.sums.specs.declared.Formed.the-variants.{Terms, Over}
 use Rattle.sums.proofs.integer.Reads as integer
 use Rattle.sums.proofs.variable.Reads as variable
 use Rattle.sums.proofs.sum.Reads as sum
+use Rattle.sums.proofs.multiply_by_term.Reads as multiply-by-term
 use Rattle.sums.proofs.product.Reads as product
 use Rattle.sums.proofs.power.Reads as power
 use Rattle.sums.proofs.rows.rank_words.Reads as rank-words
@@ -50,6 +51,9 @@ variable-one k a r r' e e' h h' = told-one r r' (same h h')
 
 pub sum-one : OneLent sum.Learnt {L = TwoAreas} (λ k e. (now (e .1 .1 .1 .1 .0), now (e .1 .1 .1 .1 .1 .0)))
 sum-one k a r r' e e' h h' = told-one r r' (same h h')
+
+pub multiply-by-term-one : OneLent multiply-by-term.Learnt {L = TwoAreas} (λ k e. (now (e .1 .1 .1 .1 .0), now (e .1 .1 .1 .1 .1 .0)))
+multiply-by-term-one k a r r' e e' h h' = told-one r r' (same h h')
 
 pub product-one : OneLent product.Learnt {L = TwoAreas} (λ k e. (now (e .1 .1 .1 .1 .0), now (e .1 .1 .1 .1 .1 .0)))
 product-one k a r r' e e' h h' = told-one r r' (same h h')

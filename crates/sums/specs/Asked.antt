@@ -14,7 +14,7 @@ pub record Room (ws : List ℕ) (cs : List ℤ) : Type 0 where
   pub words : mostTerms ≤ length ws
   pub coefficients : mostTerms ≤ length cs
 
--- and for the sum of two that have so many terms together: it has no more of them, and no more than 128
+-- and for one that has so many terms at most: none that is formed has more than 128
 pub record RoomOf (many : ℕ) (ws : List ℕ) (cs : List ℤ) : Type 0 where
   pub words : min many mostTerms ≤ length ws
   pub coefficients : min many mostTerms ≤ length cs

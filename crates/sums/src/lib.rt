@@ -89,7 +89,7 @@ pub fn sum(
 // ---- Products and powers. The running sum stands in arrays of its own: the areas are written when nothing can be refused any more.
 
 // The product by one term needs no running sum: patterns that differ still do, and stay in order.
-fn multiply_by_term(
+pub fn multiply_by_term(
     word: u64,
     c: i64,
     tp: &[u64],
@@ -98,7 +98,7 @@ fn multiply_by_term(
     coefficients: &mut [i64],
 ) -> Formed
     requires { ⌜ HasTerm word c (now tp) (now tc) ⌝ }
-    requires { ⌜ Room (now patterns) (now coefficients) ⌝ }
+    requires { ⌜ RoomOf (length (now tp)) (now patterns) (now coefficients) ⌝ }
     ensures { λ r. ⌜ (formedOf r, now (patterns .exit), now (coefficients .exit)) ≡ formedInto (formed (dropZeros (row (term c (exponents word)) (terms (now (tp .entry)) (now (tc .entry)))))) (now (patterns .entry)) (now (coefficients .entry)) ⌝ }
 {
     let n = tp.len();

@@ -30,7 +30,7 @@ multiply-by-term-requires : tie.Need-multiply-by-term-requires
 multiply-by-term-requires c κs =
     let d = c .before .before .before in
     let pre = d .before .before .before .before .before .pre in
-    (rw (read d) (has-term (pre .0) (d .before .if1 .taken)), pre .1 .1)
+    (rw (read d) (has-term (pre .0) (d .before .if1 .taken)), record { words = omega (arith, pre .1 .1 .words); coefficients = omega (arith, pre .1 .1 .coefficients) })
 
 same-length : tie.Need-same-length
 same-length c = search needs

@@ -21,7 +21,7 @@ abbrev μ-loop : tie.MeasureT-loop
 loop-holds : tie.Need-loop-holds Inv-loop μ-loop
 loop-holds c =
     let entry = c .before .before in
-    start (rw (toZ-ofZ w64 (entry .args .c) (entry .fits .c)) (entry .pre .0)) (entry .pre .1 .words) (entry .pre .1 .coefficients)
+    start (rw (toZ-ofZ w64 (entry .args .c) (entry .fits .c)) (entry .pre .0)) (entry .pre .1)
 
 mul-d : tie.Need-mul-d Inv-loop μ-loop
 mul-d c = search needs

@@ -1,6 +1,6 @@
 -- `form_sum` meets its contract: in both cases the arrays have room for the sum.
 use native.Mathlib.Omega.{arith}
-use Rattle.nodes.proofs.Working.{addends-there}
+use Rattle.nodes.proofs.Putting.{addends-there}
 use borrow.Author.Needs.{needs}
 use Rattle.nodes.proofs.work.form_sum.Statement.{statement}
 use Rattle.nodes.proofs.work.form_sum.Tie as tie

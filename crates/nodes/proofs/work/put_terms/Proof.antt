@@ -1,6 +1,6 @@
 -- `put_terms` meets its contract: both work areas lend the part of node i.
 use native.Mathlib.Omega.{arith}
-use Rattle.nodes.proofs.Working.{put-at}
+use Rattle.nodes.proofs.Putting.{put-at}
 use borrow.Author.Needs.{needs}
 use Rattle.nodes.proofs.work.put_terms.Statement.{statement}
 use Rattle.nodes.proofs.work.put_terms.Tie as tie

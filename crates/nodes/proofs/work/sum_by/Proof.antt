@@ -1,7 +1,7 @@
 -- `sum_by` meets its contract: its operands are the sums of two earlier nodes, where they stand, and what they give is put into the part of node i.
 use mathlib.Core.List.{[]}
 use native.Mathlib.Omega.{arith}
-use Rattle.nodes.proofs.Working.{addends-there, addends, addends-room, addends-sum, put-none, put-few, put-inside, put-formed}
+use Rattle.nodes.proofs.Putting.{addends-there, addends, addends-room, addends-made, put-none, put-few, put-formed}
 use borrow.Author.Needs.{needs}
 use Rattle.nodes.proofs.work.sum_by.Statement.{statement}
 use Rattle.nodes.proofs.work.sum_by.Tie as tie
@@ -100,10 +100,10 @@ same-length-4 : tie.Need-same-length-4
 same-length-4 c = search needs
 
 returns : tie.Need-returns
-returns c = let s = (c .before .before .before .before .before .before .before .before .before .before .before .before .before .before .before .before .before .before .before) in put-none (s .args .i) _ _ (addends-sum (s .pre .0)) _ _ _ _ _ _ (c .before .before .before .before .before .sum .result) (c .before .before .before .before .before .sum .ensures) (c .before .match .keys2)
+returns c = let s = (c .before .before .before .before .before .before .before .before .before .before .before .before .before .before .before .before .before .before .before) in put-none (s .args .i) _ _ (addends-made (s .pre .0) (c .before .before .before .before .before .sum .result) (c .before .before .before .before .before .sum .ensures)) (c .before .match .keys2)
 
 put-terms-requires : tie.Need-put-terms-requires
-put-terms-requires c κs = let s = (c .before .before .before .before .before .before .before .before .before .before .before .before .before .before .before .before .before .before .before .before .before .before .before .before) in let r = s .pre .0 in let f = c .before .before .before .before .before .formed .given .1 in let inside = put-inside (s .args .i) _ _ (addends-sum r) [] [] _ _ _ _ (c .before .before .before .before .before .before .before .before .before .before .sum .result) (c .before .before .before .before .before .before .before .before .before .before .sum .ensures) f in (omega (arith, r .inside, r .words-room), (omega (arith, r .inside, r .coefficients-room), (put-few (s .args .i) _ _ (addends-sum r) [] [] _ _ _ _ (c .before .before .before .before .before .before .before .before .before .before .sum .result) (c .before .before .before .before .before .before .before .before .before .before .sum .ensures) f, inside)))
+put-terms-requires c κs = let r = c .before .before .before .before .before .before .before .before .before .before .before .before .before .before .before .before .before .before .before .before .before .before .before .before .pre .0 in (omega (arith, r .inside, r .words-room), (omega (arith, r .inside, r .coefficients-room), put-few 0 [] [] (addends-made r (c .before .before .before .before .before .before .before .before .before .before .sum .result) (c .before .before .before .before .before .before .before .before .before .before .sum .ensures)) (c .before .before .before .before .before .formed .given .1)))
 
 same-length-5 : tie.Need-same-length-5
 same-length-5 c = search needs
@@ -118,7 +118,7 @@ same-length-8 : tie.Need-same-length-8
 same-length-8 c = search needs
 
 returns-2 : tie.Need-returns-2
-returns-2 c = let s = (c .before .before .before .before .before .before .before .before .before .before .before .before .before .before .before .before .before .before .before .before .before .before .before .before .before .before .before .before) in put-formed (s .args .i) _ _ (addends-sum (s .pre .0)) _ _ _ _ _ _ (c .before .before .before .before .before .before .before .before .before .before .before .before .before .before .sum .result) (c .before .before .before .before .before .before .before .before .before .before .before .before .before .before .sum .ensures) (c .before .before .before .before .before .before .before .before .before .formed .given .1) (c .before .before .before .put-terms .ensures .0) (c .before .before .before .put-terms .ensures .1)
+returns-2 c = let s = (c .before .before .before .before .before .before .before .before .before .before .before .before .before .before .before .before .before .before .before .before .before .before .before .before .before .before .before .before) in put-formed (s .args .i) _ _ (addends-made (s .pre .0) (c .before .before .before .before .before .before .before .before .before .before .before .before .before .before .sum .result) (c .before .before .before .before .before .before .before .before .before .before .before .before .before .before .sum .ensures)) (c .before .before .before .before .before .before .before .before .before .formed .given .1) (c .before .before .before .put-terms .ensures .0) (c .before .before .before .put-terms .ensures .1)
 
 pub sum-by-spec : {M : Type 1} → statement M
 sum-by-spec =

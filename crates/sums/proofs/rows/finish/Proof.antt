@@ -22,7 +22,7 @@ abbrev μ-loop : tie.MeasureT-loop
 μ-loop sr sc patterns₀ coefficients₀ n count₀ k₀ patterns coefficients count k = length sr - k
 
 loop-holds : tie.Need-loop-holds Inv-loop μ-loop
-loop-holds c = let pre = c .before .before .pre in start _ _ _ _ (pre .0) (pre .1 .words) (pre .1 .coefficients)
+loop-holds c = let pre = c .before .before .pre in start _ _ _ _ (pre .0) (omega (arith, pre .0 .few, pre .1 .words)) (omega (arith, pre .0 .few, pre .1 .coefficients))
 
 mul-c : tie.Need-mul-c Inv-loop μ-loop
 mul-c c = search needs
