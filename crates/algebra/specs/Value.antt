@@ -41,7 +41,7 @@ unfoldable pub numberSplits : ℕ → ℕ → List (ℕ × ℕ)
 numberSplits zero j = (zero, j) ∷ []
 numberSplits (suc i) j = (suc i, j) ∷ numberSplits i (suc j)
 
--- each two numbers put before each two patterns
+-- each pair of numbers put before each pair of patterns
 unfoldable pub eachBefore : List (ℕ × ℕ) → List (Pattern × Pattern) → List (Pattern × Pattern)
 eachBefore [] rest = []
 eachBefore (n ∷ ns) rest = map (λ (s : Pattern × Pattern). (n .0 ∷ s .0, n .1 ∷ s .1)) rest ++ eachBefore ns rest

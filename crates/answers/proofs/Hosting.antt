@@ -10,16 +10,12 @@ use lib.Dec.{T, ltb→lt, lt→ltb}
 use Rattle.answers.specs.Refusals.{NODES, number}
 use Rattle.answers.specs.Answers.{Told, Told.done, Told.refused, told, Outcome, outcome, check}
 use Rattle.answers.specs.Host.{hostNumber, narrowUnit, wideUnit, hosted, heard}
+use Rattle.answers.specs.Promised.{Numbered, Placed, Hearable}
 use Rattle.answers.specs.Inside.Fits.{fitsHost, largestUnit}
 use Rattle.answers.specs.declared.Refusal.{Refusal}
 use Rattle.answers.specs.declared.Refusal.the-variants.{Room, Shape, Node, Degree, Weight, Spread, Sum, List, Variable, Reading, Range, Text, Nodes}
 use Rattle.answers.specs.declared.Answer.{Answer}
 use Rattle.answers.specs.declared.Answer.the-variants.{Done, Refused}
-
--- refusals have the numbers from 1 up to that of the last
-pub record Numbered (n : ℕ) : Type 0 where
-  pub some : 0 < n
-  pub most : n ≤ NODES
 
 pub between : {n : ℕ} → 0 < n → n ≤ NODES → Numbered n
 between some most = record { some = some; most = most }
@@ -70,16 +66,6 @@ module _ (unit : ℕ) where
       ap₂ (λ (m n : ℕ). refused m n) (parts .0) (parts .1)
 
 -- ---- What a host hears.
-
--- a refusal with a place below the unit
-pub record Placed (unit refusal place : ℕ) : Type 0 where
-  pub numbered : Numbered refusal
-  pub below : place < unit
-
--- what is told can be heard: a number that is returned is below 65,536, whatever the unit
-abbrev pub Hearable : ℕ → Told → Type 0
-Hearable unit (done n) = n < narrowUnit
-Hearable unit (refused refusal place) = Placed unit refusal place
 
 pub wide-heard : (t : Told) → Hearable wideUnit t → heard (hostNumber wideUnit t) ≡ t
 wide-heard (done n) w = rw (lt-ltb n narrowUnit w)

@@ -4,7 +4,7 @@ use Prim.Native.Nat.{ℕ, _+_, _*_, _/_, _%_}
 use lib.Dec.{ltb}
 use Rattle.answers.specs.Answers.{Told, Told.done, Told.refused, Outcome}
 
--- what 1 of a refusal's number counts: for the estimate 65,536, and for every other operation 2^32
+-- a refusal's number is multiplied by this: by 65,536 for the estimate, and by 2^32 for every other operation
 abbrev pub narrowUnit : ℕ
 narrowUnit = 65536
 

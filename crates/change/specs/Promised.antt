@@ -38,7 +38,7 @@ pub record Sloped (bytes : List ℕ) (v : ℕ) (area : List ℕ) (n : ℕ) (area
   pub many : n ≡ length (packed result)
   pub area-is : area' ≡ written (packed result) area
 
--- it is refused: the refusal, its place, and the area, which stays. (A sum has no more terms than 128, and its slope no more than the sum: `never-wide`.)
+-- it is refused: the refusal, its place, and the area, which stays. (`wide` is never met: a sum has at most 128 terms, and its slope no more than the sum, which is `never-wide`.)
 pub data SlopeRefuses (bytes : List ℕ) (v : ℕ) (area : List ℕ) : ℕ → ℕ → List ℕ → Type 0 where
   no-room : length area < mostBytes variables → SlopeRefuses bytes v area ROOM 0 area
   at-sum : {p : ℕ} → mostBytes variables ≤ length area → AtFault (readWhole variables bytes) p → SlopeRefuses bytes v area SUM p area

@@ -17,11 +17,11 @@ use Rattle.packed.specs.Result.{packedInto}
 -- refused if the variable's number is above 7, if the absolute coefficients of the result, added, are above 2^62, or if its terms are more than 128
 unfoldable pub judgeSlope : ℕ → Sum → Judged Sum
 judgeSlope v s =
-    let result = algebra.slope v s in
+    let sloped = algebra.slope v s in
     holding (ltb v variables) VARIABLE 0
-    (holding (leb (weight result) largestWeight) WEIGHT 0
-    (holding (leb (length result) mostTerms) SPREAD 0
-    (good result)))
+    (holding (leb (weight sloped) largestWeight) WEIGHT 0
+    (holding (leb (length sloped) mostTerms) SPREAD 0
+    (good sloped)))
 
 unfoldable pub slope : List ℕ → ℕ → List ℕ → Outcome (List ℕ)
 slope bytes v result =

@@ -48,7 +48,8 @@ use Rattle.change.proofs.ListPlaces.{listPlace, list-small}
 use Rattle.change.specs.Promised.{SlopeRefuses, SubstituteRefuses}
 use Rattle.change.proofs.Sloped as sloping
 use Rattle.change.proofs.Substituting as substituting
-use Rattle.answers.proofs.Hosting.{Numbered, between, Placed, Hearable, within, within-check}
+use Rattle.answers.proofs.Hosting.{between, within, within-check}
+use Rattle.answers.specs.Promised.{Numbered, Placed, Hearable}
 
 placed : {refusal place : ℕ} → Numbered refusal → place < wideUnit → Placed wideUnit refusal place
 placed numbered below = record { numbered = numbered; below = below }
@@ -135,7 +136,7 @@ module _ (count : ℕ) (ws : List ℕ) (cs : List ℤ) (area : List ℕ) where
   -- ROOM and SHAPE are passed, and the terms are judged
   judged-within : PackFits count ws cs area → Hearable wideUnit (check (eqb good count) SUM good area (let bytes = packed (firstTerms count ws cs) in outcome (done (length bytes)) (written bytes area)) .answer)
   judged-within p =
-      let inside : good ≤ count = omega (arith, good-most [] (take count ws) (take count cs), length-take-le count ws (p .words)) in
+      let inside : good ≤ count = omega (arith, good-most [] (take count ws) (take count cs), length-take-le count ws (p .patterns-enough)) in
       within-check (eqb good count) _ _ _ _ (placed (between (omega arith) (omega arith)) (omega (arith, inside, p .few)))
       (λ all. result-below (accepted p (eqb→eq good count all) .1) refl)
 
@@ -151,8 +152,8 @@ module _ (count : ℕ) (ws : List ℕ) (cs : List ℤ) (area : List ℕ) where
       judged-within (record {
         room = leb→le (mostBytes variables) (length area) room;
         few = leb→le count mostTerms (and-l few (words && coefficients) shape);
-        words = leb→le count (length ws) (and-l words coefficients both);
-        coefficients = leb→le count (length cs) (and-r words coefficients both);
+        patterns-enough = leb→le count (length ws) (and-l words coefficients both);
+        coefficients-enough = leb→le count (length cs) (and-r words coefficients both);
       })))
 
 -- ---- Substitution lists.

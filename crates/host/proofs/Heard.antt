@@ -14,7 +14,8 @@ use Rattle.formula.specs.Simplify.{simplify}
 use Rattle.text.specs.Text.{readFormula}
 use Rattle.change.specs.Slope.{slope}
 use Rattle.change.specs.Substitute.{substitute}
-use Rattle.answers.proofs.Hosting.{Hearable, wide-heard, outcome-heard}
+use Rattle.answers.proofs.Hosting.{wide-heard, outcome-heard}
+use Rattle.answers.specs.Promised.{Hearable}
 use Rattle.host.proofs.Fitting.{text-within, simplify-within, unpack-within, pack-within, slope-within, substitute-within}
 
 wide : {Areas : Type 0} (o : Outcome Areas) → Hearable wideUnit (o .answer) → {number : ℕ} {a : Areas} → (number, a) ≡ hosted wideUnit o → o ≡ outcome (heard number) a

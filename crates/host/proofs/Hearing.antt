@@ -6,7 +6,8 @@ use lib.Dec.{T}
 use Rattle.answers.specs.Answers.{Told, Outcome, outcome}
 use Rattle.answers.specs.Host.{hostNumber, hosted, heard, narrowUnit, wideUnit}
 use Rattle.answers.specs.Inside.Fits.{fitsHost, largestUnit}
-use Rattle.answers.proofs.Hosting.{Hearable, within-fits, wide-heard}
+use Rattle.answers.proofs.Hosting.{within-fits, wide-heard}
+use Rattle.answers.specs.Promised.{Hearable}
 
 -- ---- The code's answer, and what the lent areas hold, are an outcome that stays within the unit.
 

@@ -15,7 +15,7 @@ use Rattle.formula.specs.Table.{judgeNode, judgeNodes, isShape, judgeTable}
 use Rattle.answers.specs.Quoted.{quoted}
 use Rattle.text.specs.Signs.{isDigit}
 use Rattle.text.specs.Letters.{letterOf}
-use Rattle.text.specs.Tree.{size, nodesOf}
+use Rattle.text.specs.Tree.{nodeCount, nodesOf}
 use Rattle.text.specs.Reader.{takes, moreDigits, digitsAt, readAtom, readExponent, readFactor, readMore, isTimes, readTerm, isSign, signed, afterMinus, readSum, inBrackets, readWhole}
 use Rattle.text.specs.Text.{judgeText, textSum}
 use Rattle.listing.specs.Decimal.{digitsOf, decimal, signedDecimal}
@@ -50,5 +50,5 @@ table =
     ∷ []
 
 pub cases-hold : Each Says table
-unfolding table prints quoted withoutNewline textSum tableSum listed sumLines refusalLine numbered termLines termLine exponentsLine signedDecimal decimal digitsOf judgeText readWhole inBrackets readSum afterMinus signed isSign readTerm isTimes readMore readFactor readExponent readAtom digitsAt moreDigits takes letterOf isDigit size nodesOf judgeTable isShape judgeNodes judgeNode holding andThen tableOf isIn isKind readNode formalDegree formalWeight nodeSpread nodeSum times degree same thenBy byPowers order settle insert gather keep dropZeros collect occurs countNew spread arithmetic.integer arithmetic.variable row pairs _⊕_ sumSpread _⊗_ productSpread arithmetic.power powerSpread
+unfolding table prints quoted withoutNewline textSum tableSum listed sumLines refusalLine numbered termLines termLine exponentsLine signedDecimal decimal digitsOf judgeText readWhole inBrackets readSum afterMinus signed isSign readTerm isTimes readMore readFactor readExponent readAtom digitsAt moreDigits takes letterOf isDigit nodeCount nodesOf judgeTable isShape judgeNodes judgeNode holding andThen tableOf isIn isKind readNode formalDegree formalWeight nodeSpread nodeSum times degree same thenBy byPowers order settle insert gather keep dropZeros collect occurs countNew spread arithmetic.integer arithmetic.variable row pairs _⊕_ sumSpread _⊗_ productSpread arithmetic.power powerSpread
 cases-hold = refl also refl also refl also refl also refl also refl also refl also refl also tt

@@ -21,7 +21,7 @@ use Rattle.formula.specs.Simplify.{lastSum, tableSum}
 use Rattle.formula.proofs.Meaning.{last-accepted, passed-means}
 use Rattle.formula.proofs.Tables.{table-one}
 use Rattle.text.specs.Limits.{longestText}
-use Rattle.text.specs.Tree.{Tree, size, nodesOf, treeValue}
+use Rattle.text.specs.Tree.{Tree, nodeCount, nodesOf, treeValue}
 use Rattle.text.specs.Grammar.{Formula}
 use Rattle.text.specs.Reader.{readWhole}
 use Rattle.text.specs.Text.{judgeText, textSum}
@@ -36,7 +36,7 @@ use Rattle.listing.proofs.Answered.{judged-passes}
 pub record Typed (text : List ℕ) (t : Tree) : Type 0 where
   pub formula : Formula text t
   pub short : length text ≤ longestText
-  pub few : size t ≤ mostNodes
+  pub few : nodeCount t ≤ mostNodes
 
 abbrev Judges : List ℕ → Judged Tree → Type 0
 Judges text (good t) = Typed text t
@@ -46,13 +46,13 @@ text-judged : (text : List ℕ) → Judges text (judgeText text)
 unfolding judgeText holding andThen
 text-judged text = go (leb (length text) longestText) refl (readWhole text) refl
   where
-    counted : (t : Tree) → Formula text t → length text ≤ longestText → (b : Bool) → leb (size t) mostNodes ≡ b → Judges text (holding b NODES 0 (good t))
-    counted t d short true e = record { formula = d; short = short; few = leb-true (size t) mostNodes e }
+    counted : (t : Tree) → Formula text t → length text ≤ longestText → (b : Bool) → leb (nodeCount t) mostNodes ≡ b → Judges text (holding b NODES 0 (good t))
+    counted t d short true e = record { formula = d; short = short; few = leb-true (nodeCount t) mostNodes e }
     counted t d short false e = inr refl
 
     go : (b : Bool) → leb (length text) longestText ≡ b → (j : Judged Tree) → readWhole text ≡ j
-        → Judges text (holding b TEXT longestText (andThen j (λ t. holding (leb (size t) mostNodes) NODES 0 (good t))))
-    go true s (good t) e = counted t (formula-read text t e) (leb-true (length text) longestText s) (leb (size t) mostNodes) refl
+        → Judges text (holding b TEXT longestText (andThen j (λ t. holding (leb (nodeCount t) mostNodes) NODES 0 (good t))))
+    go true s (good t) e = counted t (formula-read text t e) (leb-true (length text) longestText s) (leb (nodeCount t) mostNodes) refl
     go true s (fails refusal p) e = inl (stops-longest text refusal p e .0)
     go false s j e = inl refl
 

@@ -46,7 +46,7 @@ unfoldable pub isIn : ℕ → ℤ → Bool
 isIn limit (pos n) = ltb n limit
 isIn limit (negsuc n) = false
 
--- the number is that of a kind
+-- the number is that of this kind
 unfoldable pub isKind : ℕ → ℤ → Bool
 isKind kind (pos n) = eqb n kind
 isKind kind (negsuc n) = false

@@ -89,7 +89,7 @@ pack-accepts s count ws cs area a valid held words coefficients room =
     let many : length s ≡ count = ap length (sym held) ∙ front-length count ws cs words coefficients in
     let long = length-take-le count ws words in
     let alike : length (take count ws) ≡ length (take count cs) = long ∙ sym (length-take-le count cs coefficients) in
-    let passed : PackFits count ws cs area = record { room = room; few = omega (arith, many, a .few); words = words; coefficients = coefficients } in
+    let passed : PackFits count ws cs area = record { room = room; few = omega (arith, many, a .few); patterns-enough = words; coefficients-enough = coefficients } in
     let all-good' = good-terms [] (take count ws) (take count cs) (valid-each (take count ws) valid) alike (rw held (accepted-good variables s a)) ∙ long in
     sym (all-good passed all-good') ∙ rw held
 
@@ -107,8 +107,8 @@ pack-accepted {count} {ws} {cs} {area} e =
     let passed : PackFits count ws cs area = record {
       room = leb→le (mostBytes variables) (length area) (room .0);
       few = leb→le count mostTerms (and-l (leb count mostTerms) (words-fit && coefficients-fit) (shape .0));
-      words = leb→le count (length ws) (and-l words-fit coefficients-fit both);
-      coefficients = leb→le count (length cs) (and-r words-fit coefficients-fit both);
+      patterns-enough = leb→le count (length ws) (and-l words-fit coefficients-fit both);
+      coefficients-enough = leb→le count (length cs) (and-r words-fit coefficients-fit both);
     } in
     let sum = accepted passed (eqb→eq (goodTerms [] (take count ws) (take count cs)) count (good .0)) in
     record {
@@ -116,7 +116,7 @@ pack-accepted {count} {ws} {cs} {area} e =
       valid = each-valid (take count ws) (sum .0);
       accepted = sum .1;
       many = same .0;
-      area-is = sym (same .1);
+      result-is = sym (same .1);
     }
 
 -- ---- Each undoes the other.
@@ -133,11 +133,11 @@ pub pack-unpack : (count : ℕ) (ws : List ℕ) (cs : List ℤ) (area : List ℕ
 pack-unpack count ws cs area length-done area' e ws₀ cs₀ words-room coefficients-room =
     let p = pack-accepted e in
     let s = firstTerms count ws cs in
-    let bytes : take length-done area' ≡ packed s = written-front (packed s) area (p .area-is) (p .many) .0 in
+    let bytes : take length-done area' ≡ packed s = written-front (packed s) area (p .result-is) (p .many) .0 in
     let fits = p .fits in
-    let words = front-words count ws cs (fits .words) (fits .coefficients) (p .valid) in
-    let coefficients = front-coefficients count ws cs (fits .words) (fits .coefficients) in
-    rw bytes (rw (words, coefficients, front-length count ws cs (fits .words) (fits .coefficients)) at (unpack-accepts s ws₀ cs₀ (p .accepted) words-room coefficients-room))
+    let words = front-words count ws cs (fits .patterns-enough) (fits .coefficients-enough) (p .valid) in
+    let coefficients = front-coefficients count ws cs (fits .patterns-enough) (fits .coefficients-enough) in
+    rw bytes (rw (words, coefficients, front-length count ws cs (fits .patterns-enough) (fits .coefficients-enough)) at (unpack-accepts s ws₀ cs₀ (p .accepted) words-room coefficients-room))
 
 -- packing what was unpacked gives the bytes again, in any area with room
 pub unpack-pack : (bytes ws : List ℕ) (cs : List ℤ) (count : ℕ) (ws' : List ℕ) (cs' : List ℤ) → ((i : ℕ) → getD bytes i 0 < 256)

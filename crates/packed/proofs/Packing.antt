@@ -48,25 +48,25 @@ module _ {count : ℕ} {ws : List ℕ} {cs : List ℤ} {area : List ℕ} (p : Pa
   good = goodTerms [] (take count ws) (take count cs)
 
   sum-long : length (firstTerms count ws cs) ≡ count
-  sum-long = front-length count ws cs (p .words) (p .coefficients)
+  sum-long = front-length count ws cs (p .patterns-enough) (p .coefficients-enough)
 
   pub bad-term : goodTerms [] (take count ws) (take count cs) < count → outcome (refused SUM (goodTerms [] (take count ws) (take count cs))) area ≡ pack count ws cs area
   unfolding pack
   bad-term h =
-      rw (le-leb (mostBytes variables) (length area) (p .room), le-leb count mostTerms (p .few), le-leb count (length ws) (p .words), le-leb count (length cs) (p .coefficients), ne-eqb good count (λ e. omega arith))
+      rw (le-leb (mostBytes variables) (length area) (p .room), le-leb count mostTerms (p .few), le-leb count (length ws) (p .patterns-enough), le-leb count (length cs) (p .coefficients-enough), ne-eqb good count (λ e. omega arith))
 
   pub all-good : goodTerms [] (take count ws) (take count cs) ≡ count → outcome (done (length (packed (firstTerms count ws cs)))) (written (packed (firstTerms count ws cs)) area) ≡ pack count ws cs area
   unfolding pack
   all-good h =
-      rw (le-leb (mostBytes variables) (length area) (p .room), le-leb count mostTerms (p .few), le-leb count (length ws) (p .words), le-leb count (length cs) (p .coefficients), eq-eqb good count h)
+      rw (le-leb (mostBytes variables) (length area) (p .room), le-leb count mostTerms (p .few), le-leb count (length ws) (p .patterns-enough), le-leb count (length cs) (p .coefficients-enough), eq-eqb good count h)
 
   pub every-good : count ≤ goodTerms [] (take count ws) (take count cs) → goodTerms [] (take count ws) (take count cs) ≡ count
-  every-good h = omega (arith, length-take-le count ws (p .words), good-most [] (take count ws) (take count cs))
+  every-good h = omega (arith, length-take-le count ws (p .patterns-enough), good-most [] (take count ws) (take count cs))
 
   -- good terms make an accepted sum, of valid words
   pub accepted : goodTerms [] (take count ws) (take count cs) ≡ count → (AllValid (take count ws)) × (Accepted variables (firstTerms count ws cs))
   accepted h =
-      let all = terms-good [] (take count ws) (take count cs) (h ∙ sym (length-take-le count ws (p .words))) in
+      let all = terms-good [] (take count ws) (take count cs) (h ∙ sym (length-take-le count ws (p .patterns-enough))) in
       (all .0, good-accepted variables (firstTerms count ws cs) (rw sum-long (p .few)) (all .1))
 
   pub every-valid : goodTerms [] (take count ws) (take count cs) ≡ count → EachValid (take count ws)

@@ -87,7 +87,7 @@ module _ (count : ℕ) (ws : List ℕ) (cs : List ℤ) (area : List ℕ) where
   refuses-pack (PackRefuses.few-coefficients room few words h) = sym (packing.few-coefficients count ws cs area room few words h)
   refuses-pack (PackRefuses.bad-term passed b) =
       let found = bad-found b in
-      sym (packing.bad-term passed (omega (arith, found .0, found .1, length-take-le count ws (passed .words)))) ∙ ap (λ (n : ℕ). outcome (refused SUM n) area) (found .0)
+      sym (packing.bad-term passed (omega (arith, found .0, found .1, length-take-le count ws (passed .patterns-enough)))) ∙ ap (λ (n : ℕ). outcome (refused SUM n) area) (found .0)
 
   abbrev PackBehind : Told → List ℕ → Type 0
   PackBehind (done n) area' = Unit {0}
@@ -104,8 +104,8 @@ module _ (count : ℕ) (ws : List ℕ) (cs : List ℤ) (area : List ℕ) where
 
       judged-terms : PackFits count ws cs area → Dec (goodTerms [] (take count ws) (take count cs) < count) → PackExplains (pack count ws cs area)
       judged-terms passed (yes fewer) =
-          let long = length-take-le count ws (passed .words) in
-          by (PackRefuses.bad-term passed (first-bad [] (take count ws) (take count cs) (long ∙ sym (length-take-le count cs (passed .coefficients))) (omega (arith, fewer, long))))
+          let long = length-take-le count ws (passed .patterns-enough) in
+          by (PackRefuses.bad-term passed (first-bad [] (take count ws) (take count cs) (long ∙ sym (length-take-le count cs (passed .coefficients-enough))) (omega (arith, fewer, long))))
       judged-terms passed (no all) = subst PackExplains (packing.all-good passed (packing.every-good passed (omega (arith, all)))) tt
 
       go : Dec (length area < mostBytes variables) → Dec (mostTerms < count) → Dec (length ws < count) → Dec (length cs < count) → PackExplains (pack count ws cs area)
@@ -114,7 +114,7 @@ module _ (count : ℕ) (ws : List ℕ) (cs : List ℤ) (area : List ℕ) where
       go (no long) (no few) (yes short) coefficients = by (PackRefuses.few-words (omega (arith, long)) (omega (arith, few)) short)
       go (no long) (no few) (no words) (yes short) = by (PackRefuses.few-coefficients (omega (arith, long)) (omega (arith, few)) (omega (arith, words)) short)
       go (no long) (no few) (no words) (no coefficients) =
-          judged-terms (record { room = omega (arith, long); few = omega (arith, few); words = omega (arith, words); coefficients = omega (arith, coefficients) })
+          judged-terms (record { room = omega (arith, long); few = omega (arith, few); patterns-enough = omega (arith, words); coefficients-enough = omega (arith, coefficients) })
           (decLt (goodTerms [] (take count ws) (take count cs)) count)
 
   pub pack-refuses : {refusal p : ℕ} {area' : List ℕ} → pack count ws cs area ≡ outcome (refused refusal p) area' → PackRefuses count ws cs area refusal p × (area' ≡ area)

@@ -43,38 +43,38 @@ clearedWith patterns coefficients result = (cleared 0 workPlaces patterns, clear
 -- ---- Unpack.
 
 -- it is done: the bytes are those of a sum, and the two areas hold its terms
-pub record Unpacks (bytes ws : List ℕ) (cs : List ℤ) (count : ℕ) (ws' : List ℕ) (cs' : List ℤ) : Type 0 where
+pub record Unpacks (bytes patterns : List ℕ) (coefficients : List ℤ) (count : ℕ) (patterns' : List ℕ) (coefficients' : List ℤ) : Type 0 where
   pub sum : Sum
   pub accepted : Accepted variables sum
   pub bytes-are : bytes ≡ packed sum
   pub many : length sum ≡ count
-  pub words-are : ws' ≡ written (wordsOf sum) ws
-  pub coefficients-are : cs' ≡ written (coefficientsOf sum) cs
-  pub words-room : mostTerms ≤ length ws
-  pub coefficients-room : mostTerms ≤ length cs
+  pub words-are : patterns' ≡ written (wordsOf sum) patterns
+  pub coefficients-are : coefficients' ≡ written (coefficientsOf sum) coefficients
+  pub words-room : mostTerms ≤ length patterns
+  pub coefficients-room : mostTerms ≤ length coefficients
 
 -- it is refused: the refusal, and its place. (The areas then stay, which the theorems say beside it.)
-pub data UnpackRefuses (bytes ws : List ℕ) (cs : List ℤ) : ℕ → ℕ → Type 0 where
-  few-words : length ws < mostTerms → UnpackRefuses bytes ws cs ROOM 0
-  few-coefficients : mostTerms ≤ length ws → length cs < mostTerms → UnpackRefuses bytes ws cs ROOM 0
-  at-sum : {p : ℕ} → mostTerms ≤ length ws → mostTerms ≤ length cs → AtFault (readWhole variables bytes) p → UnpackRefuses bytes ws cs SUM p
+pub data UnpackRefuses (bytes patterns : List ℕ) (coefficients : List ℤ) : ℕ → ℕ → Type 0 where
+  few-words : length patterns < mostTerms → UnpackRefuses bytes patterns coefficients ROOM 0
+  few-coefficients : mostTerms ≤ length patterns → length coefficients < mostTerms → UnpackRefuses bytes patterns coefficients ROOM 0
+  at-sum : {p : ℕ} → mostTerms ≤ length patterns → mostTerms ≤ length coefficients → AtFault (readWhole variables bytes) p → UnpackRefuses bytes patterns coefficients SUM p
 
 -- ---- Pack.
 
 -- ROOM and SHAPE are passed
-pub record PackFits (count : ℕ) (ws : List ℕ) (cs : List ℤ) (area : List ℕ) : Type 0 where
-  pub room : mostBytes variables ≤ length area
+pub record PackFits (count : ℕ) (patterns : List ℕ) (coefficients : List ℤ) (result : List ℕ) : Type 0 where
+  pub room : mostBytes variables ≤ length result
   pub few : count ≤ mostTerms
-  pub words : count ≤ length ws
-  pub coefficients : count ≤ length cs
+  pub patterns-enough : count ≤ length patterns
+  pub coefficients-enough : count ≤ length coefficients
 
 -- it is done: the words are valid, the terms make a sum, and the area holds its bytes
-pub record Packs (count : ℕ) (ws : List ℕ) (cs : List ℤ) (area : List ℕ) (length-done : ℕ) (area' : List ℕ) : Type 0 where
-  pub fits : PackFits count ws cs area
-  pub valid : EachValid (take count ws)
-  pub accepted : Accepted variables (firstTerms count ws cs)
-  pub many : length (packed (firstTerms count ws cs)) ≡ length-done
-  pub area-is : area' ≡ written (packed (firstTerms count ws cs)) area
+pub record Packs (count : ℕ) (patterns : List ℕ) (coefficients : List ℤ) (result : List ℕ) (length-done : ℕ) (result' : List ℕ) : Type 0 where
+  pub fits : PackFits count patterns coefficients result
+  pub valid : EachValid (take count patterns)
+  pub accepted : Accepted variables (firstTerms count patterns coefficients)
+  pub many : length (packed (firstTerms count patterns coefficients)) ≡ length-done
+  pub result-is : result' ≡ written (packed (firstTerms count patterns coefficients)) result
 
 -- the first bad term: those before it are good. `before` has the terms before, the last of them first
 pub data FirstBad : Sum → List ℕ → List ℤ → ℕ → Type 0 where
@@ -83,9 +83,9 @@ pub data FirstBad : Sum → List ℕ → List ℤ → ℕ → Type 0 where
       → FirstBad (term c (exponents w) ∷ before) ws cs p → FirstBad before (w ∷ ws) (c ∷ cs) (suc p)
 
 -- it is refused: the refusal, and its place
-pub data PackRefuses (count : ℕ) (ws : List ℕ) (cs : List ℤ) (area : List ℕ) : ℕ → ℕ → Type 0 where
-  no-room : length area < mostBytes variables → PackRefuses count ws cs area ROOM 0
-  too-many : mostBytes variables ≤ length area → mostTerms < count → PackRefuses count ws cs area SHAPE 0
-  few-words : mostBytes variables ≤ length area → count ≤ mostTerms → length ws < count → PackRefuses count ws cs area SHAPE 0
-  few-coefficients : mostBytes variables ≤ length area → count ≤ mostTerms → count ≤ length ws → length cs < count → PackRefuses count ws cs area SHAPE 0
-  bad-term : {p : ℕ} → PackFits count ws cs area → FirstBad [] (take count ws) (take count cs) p → PackRefuses count ws cs area SUM p
+pub data PackRefuses (count : ℕ) (patterns : List ℕ) (coefficients : List ℤ) (result : List ℕ) : ℕ → ℕ → Type 0 where
+  no-room : length result < mostBytes variables → PackRefuses count patterns coefficients result ROOM 0
+  too-many : mostBytes variables ≤ length result → mostTerms < count → PackRefuses count patterns coefficients result SHAPE 0
+  few-words : mostBytes variables ≤ length result → count ≤ mostTerms → length patterns < count → PackRefuses count patterns coefficients result SHAPE 0
+  few-coefficients : mostBytes variables ≤ length result → count ≤ mostTerms → count ≤ length patterns → length coefficients < count → PackRefuses count patterns coefficients result SHAPE 0
+  bad-term : {p : ℕ} → PackFits count patterns coefficients result → FirstBad [] (take count patterns) (take count coefficients) p → PackRefuses count patterns coefficients result SUM p

@@ -25,7 +25,7 @@ use Rattle.formula.proofs.Passing.{table-length, shape-judge, passed-judge}
 use Rattle.formula.proofs.Simplifying.{nodes-shape}
 use Rattle.formula.specs.Promised.{Simplified}
 use Rattle.text.specs.Limits.{longestText, tablePlaces}
-use Rattle.text.specs.Tree.{Tree, size, nodesOf}
+use Rattle.text.specs.Tree.{Tree, nodeCount, nodesOf}
 use Rattle.text.specs.Grammar.{Formula}
 use Rattle.text.specs.Text.{judgeText, tableInto, readFormula, textSum}
 use Rattle.text.proofs.Formulas.{read-formula}
@@ -38,9 +38,9 @@ use Rattle.promises.proofs.Becoming.{simplified, simplified-bytes, read
 -- ---- What is judged.
 
 -- the tree of a text that is a formula within the limits
-text-tree : (text : List ℕ) (t : Tree) → Formula text t → length text ≤ longestText → size t ≤ mostNodes → judgeText text ≡ good t
+text-tree : (text : List ℕ) (t : Tree) → Formula text t → length text ≤ longestText → nodeCount t ≤ mostNodes → judgeText text ≡ good t
 unfolding judgeText holding andThen
-text-tree text t d short few = rw (le-leb (length text) longestText short, read-formula text t d, le-leb (size t) mostNodes few)
+text-tree text t d short few = rw (le-leb (length text) longestText short, read-formula text t d, le-leb (nodeCount t) mostNodes few)
 
 -- the sum of a table that simplify takes
 table-sum : {table : List ℤ} {ws : List ℕ} {cs : List ℤ} {area : List ℕ} {n : ℕ} {areas : WorkAreas} (d : Simplified table ws cs area n areas) → tableSum table ≡ good (d .sum)

@@ -16,7 +16,7 @@ use Rattle.answers.specs.Answers.{Told.done, Told.refused, outcome}
 use Rattle.answers.specs.Areas.{written}
 use Rattle.answers.specs.Host.{hosted, narrowUnit}
 use Rattle.packed.specs.Promised.{PackedSum}
-use Rattle.router.specs.Readings.{numbersOf}
+use Rattle.router.specs.Readings.{twoByteNumbers}
 use Rattle.router.specs.Estimate.{answerBytes, answerOf, estimate, estimateIn, marginIn}
 use Rattle.router.proofs.Tolerances.{are-allowed}
 use Rattle.router.proofs.Estimating.{estimate-means, refuses-estimate, all-passed}
@@ -31,16 +31,16 @@ use Rattle.promises.proofs.Becoming.{packed-one, packed-small, becomes-
 
 module _ {bytes readings tolerances area : List ℕ} {n : ℕ} {answer : List ℕ} (d : Estimated bytes readings tolerances area n answer) where
   abbrev rs : List ℤ
-  rs = numbersOf readings
+  rs = twoByteNumbers readings
 
   abbrev ts : List ℕ
-  ts = unsigned (numbersOf tolerances)
+  ts = unsigned (twoByteNumbers tolerances)
 
   readings-are : d .rs ≡ rs
   readings-are = sym (d .given .readings-are)
 
   tolerances-are : d .ts ≡ ts
-  tolerances-are = sym (are-allowed (numbersOf tolerances) (d .ts) (d .given .tolerances-are) .1)
+  tolerances-are = sym (are-allowed (twoByteNumbers tolerances) (d .ts) (d .given .tolerances-are) .1)
 
   -- both numbers are those of the one sum with these bytes
   module _ {s : Sum} (p : PackedSum bytes s) where
@@ -64,7 +64,7 @@ module _ {bytes readings tolerances area : List ℕ} {n : ℕ} {answer : List �
 
 module _ (bytes readings tolerances area : List ℕ) {n : ℕ} {answer : List ℕ} (e : estimate bytes readings tolerances area ≡ outcome (done n) answer) where
   -- the margin is that of the one sum with these bytes
-  pub margin-exact : {s : Sum} → PackedSum bytes s → marginIn answer ≡ pos (margin s (numbersOf readings) (unsigned (numbersOf tolerances)))
+  pub margin-exact : {s : Sum} → PackedSum bytes s → marginIn answer ≡ pos (margin s (twoByteNumbers readings) (unsigned (twoByteNumbers tolerances)))
   margin-exact p = the-margin (estimate-means bytes (packed-small p) readings tolerances area e) p
 
   module _ {f : List ℤ → ℤ} (b : Becomes bytes f) where
@@ -72,17 +72,17 @@ module _ (bytes readings tolerances area : List ℕ) {n : ℕ} {answer : List �
     done-so = estimate-means bytes (packed-small (becomes-values b .of-bytes)) readings tolerances area e
 
     -- the estimate is the value at the readings
-    pub estimate-exact : estimateIn answer ≡ f (numbersOf readings)
+    pub estimate-exact : estimateIn answer ≡ f (twoByteNumbers readings)
     estimate-exact = at-readings done-so (becomes-values b)
 
     -- and wherever each true number is within its tolerance of its reading, the value is from the estimate less the margin up to both together
-    pub demand-3 : {x : List ℤ} → Within x (numbersOf readings) (unsigned (numbersOf tolerances))
+    pub demand-3 : {x : List ℤ} → Within x (twoByteNumbers readings) (unsigned (twoByteNumbers tolerances))
         → ((estimateIn answer -ℤ marginIn answer) ≤ℤ f x) × (f x ≤ℤ (estimateIn answer +ℤ marginIn answer))
     demand-3 w = near done-so (becomes-values b) w
 
 -- the same, where the host gets 16
 pub demand-3-host : (bytes readings tolerances area : List ℕ) {answer : List ℕ} → (answerBytes, answer) ≡ hosted narrowUnit (estimate bytes readings tolerances area)
-    → {f : List ℤ → ℤ} → Becomes bytes f → {x : List ℤ} → Within x (numbersOf readings) (unsigned (numbersOf tolerances))
+    → {f : List ℤ → ℤ} → Becomes bytes f → {x : List ℤ} → Within x (twoByteNumbers readings) (unsigned (twoByteNumbers tolerances))
     → ((estimateIn answer -ℤ marginIn answer) ≤ℤ f x) × (f x ≤ℤ (estimateIn answer +ℤ marginIn answer))
 demand-3-host bytes readings tolerances area e b w =
     demand-3 bytes readings tolerances area (estimate-heard bytes (packed-small (becomes-values b .of-bytes)) readings tolerances area e) b w

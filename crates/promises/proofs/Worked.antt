@@ -38,14 +38,14 @@ use Rattle.formula.specs.Table.{judgeNode, judgeNodes, isShape, judgeTable}
 use Rattle.formula.specs.Simplify.{tableSum, simplify}
 use Rattle.text.specs.Signs.{isDigit}
 use Rattle.text.specs.Letters.{letterOf}
-use Rattle.text.specs.Tree.{Tree, Tree.letter, Tree.plus, Tree.raised, Tree.minus, size, nodesOf, treeValue}
+use Rattle.text.specs.Tree.{Tree, Tree.letter, Tree.plus, Tree.raised, Tree.minus, nodeCount, nodesOf, treeValue}
 use Rattle.text.specs.Grammar.{Formula}
 use Rattle.text.specs.Reader.{takes, moreDigits, digitsAt, readAtom, readExponent, readFactor, readMore, isTimes, readTerm, isSign, signed, afterMinus, readSum, inBrackets, readWhole}
 use Rattle.text.specs.Promised.{Typed}
 use Rattle.text.proofs.Formulas.{formula-read}
 use Rattle.text.proofs.Typing.{typed-accepts}
 use Rattle.router.specs.Bytes.{plainNumber, signedNumber, plainBytes, signedBytes}
-use Rattle.router.specs.Readings.{numbersOf, spelled, beforeNegative, judgeReadings}
+use Rattle.router.specs.Readings.{twoByteNumbers, spelled, beforeNegative, judgeReadings}
 use Rattle.router.specs.Estimate.{judgeRange, judgeTerms, judgeEstimate, answerOf, answerInto, estimate}
 use Rattle.router.specs.Cases.{eight}
 use Rattle.promises.specs.Becomes.{Simplifies, ReadsAs, Becomes, Becomes.a-text}
@@ -80,21 +80,21 @@ coefficients = replicate workPlaces (pos 0)
 abbrev result : List ℕ
 result = replicate (mostBytes variables) 0
 
-table-long : length table ≡ 3 * size tree
-unfolding tableOf nodesOf size
+table-long : length table ≡ 3 * nodeCount tree
+unfolding tableOf nodesOf nodeCount
 table-long = refl
 
 is-read : ReadsAs (quoted "(a+b)^2-b^2") table
 is-read = record {
   area = tableArea;
-  count = size tree;
+  count = nodeCount tree;
   area' = written table tableArea;
   is-done = typed-accepts (quoted "(a+b)^2-b^2") tableArea (record {
     tree = tree;
     room = omega (arith, length-replicate {A = ℤ} 192 (pos 0));
     short = unfold quoted in omega arith;
     formula = is-formula;
-    few = unfold size in omega arith;
+    few = unfold nodeCount in omega arith;
     many = refl;
     table-is = refl;
   });
@@ -102,7 +102,7 @@ is-read = record {
 }
 
 is-simplified : Simplifies table (packed sum)
-unfolding tableSum simplify worked packedInto judgeTable isShape judgeNodes judgeNode holding andThen tableOf nodesOf size isIn isKind readNode formalDegree formalWeight nodeSpread nodeSum pattern.times degree same thenBy byPowers order degreeOf weight settle insert gather keep dropZeros collect occurs countNew spread arithmetic.integer arithmetic.variable row pairs _⊕_ sumSpread _⊗_ productSpread arithmetic.power powerSpread
+unfolding tableSum simplify worked packedInto judgeTable isShape judgeNodes judgeNode holding andThen tableOf nodesOf nodeCount isIn isKind readNode formalDegree formalWeight nodeSpread nodeSum pattern.times degree same thenBy byPowers order degreeOf weight settle insert gather keep dropZeros collect occurs countNew spread arithmetic.integer arithmetic.variable row pairs _⊕_ sumSpread _⊗_ productSpread arithmetic.power powerSpread
 is-simplified = record {
   words = patterns;
   coefficients = coefficients;
@@ -132,13 +132,13 @@ abbrev answer : List ℕ
 answer = answerOf (pos 160) 71
 
 is-estimated : estimate (packed sum) readings tolerances (replicate 16 0) ≡ outcome (done 16) answer
-unfolding estimate answerInto judgeEstimate judgeTerms judgeRange judgeReadings holding andThen spelled numbersOf beforeNegative plainNumber signedNumber plainBytes signedBytes packed groupsOf numberBytes code exponentBytes termBytes bytesOfTerms item.andThen item.provided item.mapped readByte readGroups readNumber decode weighs follows readCoefficient readExponents packed-sum.readTerm readTerms packed-sum.readSum packed-sum.readWhole degree thenBy byPowers order weight total patternValue value patternSize algebra.size unsigned raisedBy margin pow one
+unfolding estimate answerInto judgeEstimate judgeTerms judgeRange judgeReadings holding andThen spelled twoByteNumbers beforeNegative plainNumber signedNumber plainBytes signedBytes packed groupsOf numberBytes code exponentBytes termBytes bytesOfTerms item.andThen item.provided item.mapped readByte readGroups readNumber decode weighs follows readCoefficient readExponents packed-sum.readTerm readTerms packed-sum.readSum packed-sum.readWhole degree thenBy byPowers order weight total patternValue value patternSize algebra.size unsigned raisedBy margin pow one
 is-estimated = refl
 
 -- a from 9 to 11, b from 1 to 5
 pub lies : (x y : ℤ) → pos 9 ≤ℤ x → x ≤ℤ pos 11 → pos 1 ≤ℤ y → y ≤ℤ pos 5
     → (pos 89 ≤ℤ (pow (x +ℤ y) 2 -ℤ pow y 2)) × ((pow (x +ℤ y) 2 -ℤ pow y 2) ≤ℤ pos 231)
-unfolding treeValue spelled numbersOf unsigned plainNumber signedNumber plainBytes signedBytes
+unfolding treeValue spelled twoByteNumbers unsigned plainNumber signedNumber plainBytes signedBytes
 lies x y low high low' high' =
     demand-3 (packed sum) readings tolerances (replicate 16 0) is-estimated becomes
     {x = x ∷ y ∷ pos 0 ∷ pos 0 ∷ pos 0 ∷ pos 0 ∷ pos 0 ∷ pos 0 ∷ []}

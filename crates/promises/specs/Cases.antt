@@ -117,8 +117,8 @@ abbrev pub c : ℕ
 c = 2
 
 -- -n
-abbrev pub less : ℕ → ℤ
-less n = negℤ (pos n)
+abbrev pub neg : ℕ → ℤ
+neg n = negℤ (pos n)
 
 abbrev pub square : Made
 square = typed "(a+b)^2-b^2"
@@ -142,15 +142,16 @@ cases =
     -- its slope by a is 2a + 2b; by c it is zero
     ∷ is (slope a square) ((pos 2, 1 ∷ []) ∷ (pos 2, 0 ∷ 1 ∷ []) ∷ [])
     ∷ is (slope c square) []
-    -- with b := 0 it is a², slope by b zero; slope by b first is 2a
+    -- with b := 0 it is a², slope by b zero; slope by b first is 2a, and with b := 0 after it still is
     ∷ is withoutB ((pos 1, 2 ∷ []) ∷ [])
     ∷ is (slope b withoutB) []
     ∷ is (slope b square) ((pos 2, 1 ∷ []) ∷ [])
+    ∷ is (put b (typed "0") (slope b square)) ((pos 2, 1 ∷ []) ∷ [])
     -- a = 10, b = 3, tolerances 1 and 2: estimate 160, margin 71, reached at 11 and 5
     ∷ estimates square (pos 10 ∷ pos 3 ∷ []) (pos 1 ∷ pos 2 ∷ []) (good (pos 160, 71))
     ∷ reached square (pos 10 ∷ pos 3 ∷ []) (pos 1 ∷ pos 2 ∷ []) (pos 11 ∷ pos 5 ∷ [])
     -- a², a = −3, tolerance 1: estimate 9, margin 7
-    ∷ estimates (typed "a^2") (less 3 ∷ []) (pos 1 ∷ []) (good (pos 9, 7))
+    ∷ estimates (typed "a^2") (neg 3 ∷ []) (pos 1 ∷ []) (good (pos 9, 7))
     -- 2^62 + 1 − 1 is WEIGHT at node 2; 0 · 2^62 is zero, accepted
     ∷ refuses (typed "4611686018427387904+1-1") WEIGHT 2
     ∷ is (typed "0*4611686018427387904") []
@@ -160,7 +161,7 @@ cases =
     ∷ refuses (typed "a^61") TEXT 3
     -- 2^62 packs in ten groups, −2^62 in nine
     ∷ groups (pos (2 ^ 62)) 10
-    ∷ groups (less (2 ^ 62)) 9
+    ∷ groups (neg (2 ^ 62)) 9
     ∷ []
 
 -- ---- Further cases: the lines marked 'run only', the fourth slip, and some that 01 does not list.
@@ -181,7 +182,7 @@ further =
     -- what cancels has no margin; a large power counts nothing beside 0; refusals of three operations come in turn
     ∷ estimates (typed "a-a") (pos 10 ∷ []) (pos 5 ∷ []) (good (pos 0, 0))
     ∷ estimates (typed "b*a^59") (pos 32767 ∷ []) (pos 32767 ∷ []) (good (pos 0, 0))
-    ∷ estimates (typed "a^61") [] (less 1 ∷ []) (fails TEXT 3)
-    ∷ estimates (typed "4611686018427387904+1-1") [] (less 1 ∷ []) (fails WEIGHT 2)
-    ∷ estimates (typed "a^60") (pos 2 ∷ []) (pos 0 ∷ less 1 ∷ []) (fails READING 1)
+    ∷ estimates (typed "a^61") [] (neg 1 ∷ []) (fails TEXT 3)
+    ∷ estimates (typed "4611686018427387904+1-1") [] (neg 1 ∷ []) (fails WEIGHT 2)
+    ∷ estimates (typed "a^60") (pos 2 ∷ []) (pos 0 ∷ neg 1 ∷ []) (fails READING 1)
     ∷ []

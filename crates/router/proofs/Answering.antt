@@ -17,8 +17,8 @@ use Rattle.answers.specs.Judge.{Judged.good, Judged.fails}
 use Rattle.answers.specs.Areas.{written}
 use Rattle.weights.specs.Capped.{capped}
 use Rattle.packed.proofs.Writing.{sets-append}
-use Rattle.router.specs.Bytes.{numberBytes, signedBytes}
-use Rattle.router.specs.Readings.{numbersOf, beforeNegative, measured}
+use Rattle.router.specs.Bytes.{eightBytes, signedBytes}
+use Rattle.router.specs.Readings.{twoByteNumbers, beforeNegative, measured}
 use Rattle.router.specs.Inside.Parts.{Keeps}
 use Rattle.router.specs.Estimate.{judgeRange, answerBytes, answerOf}
 use Rattle.router.specs.Inside.Found.{foundOf}
@@ -34,12 +34,12 @@ use Rattle.router.specs.Promised.{RightLength, Given}
 
 -- ---- Readings and tolerances, read into arrays.
 
-module _ {readings tolerances : List ℕ} {rs ts : List ℤ} {good : ℕ} (l : RightLength readings tolerances) (rs-are : rs ≡ numbersOf readings) (ts-are : ts ≡ numbersOf tolerances) (good-is : good ≡ beforeNegative ts) where
+module _ {readings tolerances : List ℕ} {rs ts : List ℤ} {good : ℕ} (l : RightLength readings tolerances) (rs-are : rs ≡ twoByteNumbers readings) (ts-are : ts ≡ twoByteNumbers tolerances) (good-is : good ≡ beforeNegative ts) where
   many : length ts ≡ variables
   many = ap length ts-are ∙ numbers-length variables tolerances (l .tolerances-long)
 
-  pub stops : good < variables → FirstNegative (numbersOf tolerances) good
-  stops h = rw (good-is, ts-are) (first-negative (numbersOf tolerances) (omega (arith, many, good-is, ap length ts-are, ap beforeNegative ts-are)))
+  pub stops : good < variables → FirstNegative (twoByteNumbers tolerances) good
+  stops h = rw (good-is, ts-are) (first-negative (twoByteNumbers tolerances) (omega (arith, many, good-is, ap length ts-are, ap beforeNegative ts-are)))
 
   pub passes : variables ≤ good → beforeNegative ts ≡ length ts
   passes h = omega (arith, at-most ts, good-is, many)
@@ -88,11 +88,11 @@ both-written xs ys area room =
     ap (λ (k : ℕ). sets (sets area 0 xs) k ys) from ∙ sets-append area 0 xs ys ∙ sets-eq all area 0 (omega (arith, length-append xs ys))
     ∙ ap (λ (k : ℕ). all ++ drop k area) to
 
-pub answer-written : {x y e : ℤ} {m : ℕ} (area : List ℕ) {area₁ area₂ : List ℕ} → answerBytes ≤ length area → x ≡ e → y ≡ pos m → area₁ ≡ sets area 0 (signedBytes numberBytes x)
-    → area₂ ≡ sets area₁ numberBytes (signedBytes numberBytes y) → area₂ ≡ written (answerOf e m) area
+pub answer-written : {x y e : ℤ} {m : ℕ} (area : List ℕ) {area₁ area₂ : List ℕ} → answerBytes ≤ length area → x ≡ e → y ≡ pos m → area₁ ≡ sets area 0 (signedBytes eightBytes x)
+    → area₂ ≡ sets area₁ eightBytes (signedBytes eightBytes y) → area₂ ≡ written (answerOf e m) area
 answer-written {x} {y} area room x-is y-is first second =
-    let long-x = bytes-length numberBytes x in
-    let long-y = bytes-length numberBytes y in
-    second ∙ ap (λ l. sets l numberBytes (signedBytes numberBytes y)) first ∙ ap (λ (k : ℕ). sets (sets area 0 (signedBytes numberBytes x)) k (signedBytes numberBytes y)) (sym long-x)
-    ∙ both-written (signedBytes numberBytes x) (signedBytes numberBytes y) area (omega (arith, long-x, long-y, room))
-    ∙ ap₂ (λ v w. written (signedBytes numberBytes v ++ signedBytes numberBytes w) area) x-is y-is
+    let long-x = bytes-length eightBytes x in
+    let long-y = bytes-length eightBytes y in
+    second ∙ ap (λ l. sets l eightBytes (signedBytes eightBytes y)) first ∙ ap (λ (k : ℕ). sets (sets area 0 (signedBytes eightBytes x)) k (signedBytes eightBytes y)) (sym long-x)
+    ∙ both-written (signedBytes eightBytes x) (signedBytes eightBytes y) area (omega (arith, long-x, long-y, room))
+    ∙ ap₂ (λ v w. written (signedBytes eightBytes v ++ signedBytes eightBytes w) area) x-is y-is

@@ -23,7 +23,7 @@ use Rattle.packed.specs.Judge.{weighs, follows}
 use Rattle.packed.specs.ReadSum.{readCoefficient, readExponents, readTerm, readTerms, readSum, readWhole}
 use Rattle.packed.specs.Whole.{judged}
 use Rattle.router.specs.Bytes.{plainNumber, signedNumber, plainBytes, signedBytes}
-use Rattle.router.specs.Readings.{numbersOf, spelled, beforeNegative, judgeReadings}
+use Rattle.router.specs.Readings.{twoByteNumbers, spelled, beforeNegative, judgeReadings}
 use Rattle.router.specs.Cases.{ofLetters, eight, numbersIn, together, valueAt, isWithin}
 use Rattle.router.specs.Estimate.{judgeRange, judgeTerms, judgeEstimate, answerInto, estimate}
 
@@ -114,7 +114,7 @@ table =
     ∷ []
 
 pub cases-hold : Each Says table
-unfolding table spelled two square fives heaviest lowest a ab degree thenBy byPowers order weight total patternValue value patternSize size unsigned raisedBy margin pow one holding andThen item.andThen item.provided item.mapped readByte readGroups readNumber decode weighs follows readCoefficient readExponents readTerm readTerms readSum readWhole plainNumber signedNumber plainBytes signedBytes numbersOf beforeNegative judgeReadings judgeRange judgeTerms judgeEstimate answerInto estimate
+unfolding table spelled two square fives heaviest lowest a ab degree thenBy byPowers order weight total patternValue value patternSize size unsigned raisedBy margin pow one holding andThen item.andThen item.provided item.mapped readByte readGroups readNumber decode weighs follows readCoefficient readExponents readTerm readTerms readSum readWhole plainNumber signedNumber plainBytes signedBytes twoByteNumbers beforeNegative judgeReadings judgeRange judgeTerms judgeEstimate answerInto estimate
 cases-hold =
     refl also (refl, (refl, refl))
     also refl also refl also refl

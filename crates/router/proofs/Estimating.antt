@@ -21,7 +21,7 @@ use Rattle.packed.specs.Packed.{packed}
 use Rattle.packed.specs.ReadSum.{readWhole}
 use Rattle.packed.proofs.Results.{Reading, Reading.a-sum, Reading.a-fault, reading, fault-judged, sum-judged}
 use Rattle.packed.specs.Promised.{PackedSum, AtFault}
-use Rattle.router.specs.Readings.{readingBytes, numbersOf, spelled, beforeNegative, Readings, judgeReadings}
+use Rattle.router.specs.Readings.{readingBytes, twoByteNumbers, spelled, beforeNegative, Readings, judgeReadings}
 use Rattle.router.specs.Estimate.{Estimate, judgeRange, judgeTerms, judgeEstimate, answerBytes, answerOf, answerInto, estimate}
 use Rattle.router.specs.Promised.{RightLength, Given, FirstNegative, Estimated, EstimateRefuses, EstimateRefuses.no-room, EstimateRefuses.at-sum, EstimateRefuses.at-length, EstimateRefuses.at-tolerance, EstimateRefuses.beyond}
 use Rattle.router.proofs.Complement.{AtHome}
@@ -50,7 +50,7 @@ given-spelled rs ts many as-many home small = record {
 module _ (readings tolerances : List ℕ) where
   pub data Verdict : Type 0 where
     not-long : (RightLength readings tolerances → ⊥) → Verdict
-    negative : RightLength readings tolerances → (v : ℕ) → FirstNegative (numbersOf tolerances) v → Verdict
+    negative : RightLength readings tolerances → (v : ℕ) → FirstNegative (twoByteNumbers tolerances) v → Verdict
     all-given : (rs : List ℤ) (ts : List ℕ) → Given readings tolerances rs ts → Verdict
 
   abbrev hasLength : List ℕ → Type 0
@@ -59,14 +59,14 @@ module _ (readings tolerances : List ℕ) where
   verdict : Verdict
   verdict = go (ℕ-discrete (length readings) (readingBytes variables)) (ℕ-discrete (length tolerances) (readingBytes variables))
     where
-      signs : RightLength readings tolerances → Dec (beforeNegative (numbersOf tolerances) ≡ length (numbersOf tolerances)) → Verdict
-      signs l (yes all) = all-given (numbersOf readings) (unsigned (numbersOf tolerances)) (record { long = l; readings-are = refl; tolerances-are = allowed-are (numbersOf tolerances) all })
-      signs l (no some) = negative l (beforeNegative (numbersOf tolerances)) (first-negative (numbersOf tolerances) (omega (arith, at-most (numbersOf tolerances), some)))
+      signs : RightLength readings tolerances → Dec (beforeNegative (twoByteNumbers tolerances) ≡ length (twoByteNumbers tolerances)) → Verdict
+      signs l (yes all) = all-given (twoByteNumbers readings) (unsigned (twoByteNumbers tolerances)) (record { long = l; readings-are = refl; tolerances-are = allowed-are (twoByteNumbers tolerances) all })
+      signs l (no some) = negative l (beforeNegative (twoByteNumbers tolerances)) (first-negative (twoByteNumbers tolerances) (omega (arith, at-most (twoByteNumbers tolerances), some)))
 
       go : Dec (hasLength readings) → Dec (hasLength tolerances) → Verdict
       go (no r) t = not-long (λ l. r (l .readings-long))
       go (yes r) (no t) = not-long (λ l. t (l .tolerances-long))
-      go (yes r) (yes t) = let l : RightLength readings tolerances = record { readings-long = r; tolerances-long = t } in signs l (ℕ-discrete (beforeNegative (numbersOf tolerances)) (length (numbersOf tolerances)))
+      go (yes r) (yes t) = let l : RightLength readings tolerances = record { readings-long = r; tolerances-long = t } in signs l (ℕ-discrete (beforeNegative (twoByteNumbers tolerances)) (length (twoByteNumbers tolerances)))
 
   -- what judging says of each
   not-long-judge : (RightLength readings tolerances → ⊥) → judgeReadings readings tolerances ≡ fails READING 0
@@ -79,25 +79,25 @@ module _ (readings tolerances : List ℕ) where
       go (yes r) (yes t) = absurd (short (record { readings-long = r; tolerances-long = t }))
 
   module _ (l : RightLength readings tolerances) where
-    negative-judge : {v : ℕ} → FirstNegative (numbersOf tolerances) v → judgeReadings readings tolerances ≡ fails READING v
+    negative-judge : {v : ℕ} → FirstNegative (twoByteNumbers tolerances) v → judgeReadings readings tolerances ≡ fails READING v
     unfolding judgeReadings holding
     negative-judge {v} first =
-        let is = at-first (numbersOf tolerances) v first in
+        let is = at-first (twoByteNumbers tolerances) v first in
         rw (
           eq-eqb (length readings) (readingBytes variables) (l .readings-long),
           eq-eqb (length tolerances) (readingBytes variables) (l .tolerances-long),
-          ne-eqb (beforeNegative (numbersOf tolerances)) (length (numbersOf tolerances)) (λ e. omega (arith, e, is, negative-inside (numbersOf tolerances) first)),
+          ne-eqb (beforeNegative (twoByteNumbers tolerances)) (length (twoByteNumbers tolerances)) (λ e. omega (arith, e, is, negative-inside (twoByteNumbers tolerances) first)),
         )
         (ap (fails READING) is)
 
   given-judge : {rs : List ℤ} {ts : List ℕ} → Given readings tolerances rs ts → judgeReadings readings tolerances ≡ good (record { readings = rs; tolerances = ts })
   unfolding judgeReadings holding
   given-judge {rs} {ts} g =
-      let all = are-allowed (numbersOf tolerances) ts (g .tolerances-are) in
+      let all = are-allowed (twoByteNumbers tolerances) ts (g .tolerances-are) in
       rw (
         eq-eqb (length readings) (readingBytes variables) (g .long .readings-long),
         eq-eqb (length tolerances) (readingBytes variables) (g .long .tolerances-long),
-        eq-eqb (beforeNegative (numbersOf tolerances)) (length (numbersOf tolerances)) (all .0),
+        eq-eqb (beforeNegative (twoByteNumbers tolerances)) (length (twoByteNumbers tolerances)) (all .0),
       )
       (ap₂ (λ (r : List ℤ) (t : List ℕ). good (record { readings = r; tolerances = t })) (g .readings-are) (all .1))
 
@@ -147,7 +147,7 @@ module _ (s : Sum) (readings tolerances : List ℕ) where
   unfolding judgeTerms
   terms-not-long short = then-fails (judgeRange s) (not-long-judge readings tolerances short)
 
-  pub terms-negative : {v : ℕ} → RightLength readings tolerances → FirstNegative (numbersOf tolerances) v → judgeTerms s readings tolerances ≡ fails READING v
+  pub terms-negative : {v : ℕ} → RightLength readings tolerances → FirstNegative (twoByteNumbers tolerances) v → judgeTerms s readings tolerances ≡ fails READING v
   unfolding judgeTerms
   terms-negative l first = then-fails (judgeRange s) (negative-judge readings tolerances l first)
 

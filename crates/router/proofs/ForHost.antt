@@ -8,17 +8,18 @@ use lib.ListN.{length, getD}
 use Rattle.answers.specs.Answers.{outcome}
 use Rattle.answers.specs.Host.{hosted, heard, narrowUnit}
 use Rattle.answers.specs.Inside.Fits.{fitsHost}
-use Rattle.answers.proofs.Hosting.{Numbered, between, Hearable, within, within-fits, narrow-heard, outcome-heard}
+use Rattle.answers.proofs.Hosting.{between, within, within-fits, narrow-heard, outcome-heard}
+use Rattle.answers.specs.Promised.{Numbered, Hearable}
 use Rattle.packed.proofs.Results.{fault-small}
-use Rattle.router.specs.Readings.{numbersOf}
+use Rattle.router.specs.Readings.{twoByteNumbers}
 use Rattle.router.specs.Estimate.{estimate}
 use Rattle.router.proofs.Tolerances.{negative-inside}
 use Rattle.router.specs.Promised.{EstimateRefuses, EstimateRefuses.no-room, EstimateRefuses.at-sum, EstimateRefuses.at-length, EstimateRefuses.at-tolerance, EstimateRefuses.beyond}
 use Rattle.router.proofs.Estimating.{estimate-means, estimate-refuses}
 
 -- no more numbers than bytes
-numbers-most : (bytes : List ℕ) → length (numbersOf bytes) ≤ length bytes
-unfolding numbersOf
+numbers-most : (bytes : List ℕ) → length (twoByteNumbers bytes) ≤ length bytes
+unfolding twoByteNumbers
 numbers-most [] = omega arith
 numbers-most (low ∷ []) = omega arith
 numbers-most (low ∷ high ∷ rest) = omega (arith, numbers-most rest)
@@ -28,7 +29,7 @@ module _ (bytes : List ℕ) (byte : (i : ℕ) → getD bytes i 0 < 256) (reading
   refusal-place (no-room short) = omega arith
   refusal-place (at-sum room a) = fault-small bytes byte a
   refusal-place (at-length room s short) = omega arith
-  refusal-place (at-tolerance room s l first) = omega (arith, negative-inside (numbersOf tolerances) first, numbers-most tolerances, l .tolerances-long)
+  refusal-place (at-tolerance room s l first) = omega (arith, negative-inside (twoByteNumbers tolerances) first, numbers-most tolerances, l .tolerances-long)
   refusal-place (beyond room s g far) = omega arith
 
   refusal-numbered : {refusal p : ℕ} {area' : List ℕ} → EstimateRefuses bytes readings tolerances area refusal p area' → Numbered refusal

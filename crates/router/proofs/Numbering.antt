@@ -6,12 +6,12 @@ use native.Mathlib.Omega.{arith}
 use lib.IntN.{ℤ, pos}
 use lib.ListN.{length, getD, length-append}
 use Rattle.router.specs.Bytes.{signedNumber, signedBytes}
-use Rattle.router.specs.Readings.{readingBytes, numbersOf, spelled}
+use Rattle.router.specs.Readings.{readingBytes, twoByteNumbers, spelled}
 use Rattle.router.proofs.Complement.{AtHome, bytes-length, signed-back}
 
 -- half as many as there are bytes
-pub numbers-length : (n : ℕ) (bytes : List ℕ) → length bytes ≡ readingBytes n → length (numbersOf bytes) ≡ n
-unfolding numbersOf
+pub numbers-length : (n : ℕ) (bytes : List ℕ) → length bytes ≡ readingBytes n → length (twoByteNumbers bytes) ≡ n
+unfolding twoByteNumbers
 numbers-length n [] h = omega arith
 numbers-length n (low ∷ []) h = absurd (omega arith)
 numbers-length zero (low ∷ high ∷ rest) h = absurd (omega arith)
@@ -19,8 +19,8 @@ numbers-length (suc n) (low ∷ high ∷ rest) h = ap suc (numbers-length n rest
 
 -- number v stands at the bytes 2v and 2v + 1
 pub numbers-at : (bytes : List ℕ) (v : ℕ) → 2 * v + 1 < length bytes
-    → getD (numbersOf bytes) v (pos 0) ≡ signedNumber (getD bytes (2 * v) 0 ∷ getD bytes (2 * v + 1) 0 ∷ [])
-unfolding numbersOf
+    → getD (twoByteNumbers bytes) v (pos 0) ≡ signedNumber (getD bytes (2 * v) 0 ∷ getD bytes (2 * v + 1) 0 ∷ [])
+unfolding twoByteNumbers
 numbers-at [] v h = absurd (omega arith)
 numbers-at (low ∷ []) v h = absurd (omega arith)
 numbers-at (low ∷ high ∷ rest) zero h = refl
@@ -37,15 +37,15 @@ spelled-length [] = refl
 spelled-length (z ∷ zs) = omega (arith, length-append (signedBytes 2 z) (spelled zs), bytes-length 2 z, spelled-length zs)
 
 -- two bytes, and what follows them
-numbers-front : (bytes rest : List ℕ) → length bytes ≡ 2 → numbersOf (bytes ++ rest) ≡ signedNumber bytes ∷ numbersOf rest
-unfolding numbersOf
+numbers-front : (bytes rest : List ℕ) → length bytes ≡ 2 → twoByteNumbers (bytes ++ rest) ≡ signedNumber bytes ∷ twoByteNumbers rest
+unfolding twoByteNumbers
 numbers-front [] rest h = absurd (omega arith)
 numbers-front (low ∷ []) rest h = absurd (omega arith)
 numbers-front (low ∷ high ∷ []) rest h = refl
 numbers-front (low ∷ high ∷ more ∷ bytes) rest h = absurd (omega arith)
 
-pub numbers-back : (zs : List ℤ) → ((i : ℕ) → AtHome 2 (getD zs i (pos 0))) → numbersOf (spelled zs) ≡ zs
-unfolding spelled numbersOf
+pub numbers-back : (zs : List ℤ) → ((i : ℕ) → AtHome 2 (getD zs i (pos 0))) → twoByteNumbers (spelled zs) ≡ zs
+unfolding spelled twoByteNumbers
 numbers-back [] home = refl
 numbers-back (z ∷ zs) home =
     numbers-front (signedBytes 2 z) (spelled zs) (bytes-length 2 z) ∙ ap₂ (λ (y : ℤ) (ys : List ℤ). y ∷ ys) (signed-back 2 z (home 0)) (numbers-back zs (λ i. home (suc i)))

@@ -36,5 +36,5 @@ signedBytes k (pos n) = plainBytes k n
 signedBytes k (negsuc m) = plainBytes k (byteValues ^ k - suc m)
 
 -- the numbers of an answer have eight bytes each
-abbrev pub numberBytes : ℕ
-numberBytes = 8
+abbrev pub eightBytes : ℕ
+eightBytes = 8

@@ -14,7 +14,7 @@ use Rattle.answers.specs.Areas.{written}
 use Rattle.answers.specs.Judge.{Judged, Judged.good, Judged.fails, holding, andThen}
 use Rattle.packed.specs.ReadSum.{readWhole}
 use Rattle.packed.specs.Whole.{judged}
-use Rattle.router.specs.Bytes.{numberBytes, signedNumber, signedBytes}
+use Rattle.router.specs.Bytes.{eightBytes, signedNumber, signedBytes}
 use Rattle.router.specs.Readings.{Readings, judgeReadings}
 
 -- the value at the readings, and a bound on how far the true value is from it
@@ -36,16 +36,16 @@ judgeEstimate bytes readings tolerances = andThen (judged SUM (readWhole variabl
 
 -- 16
 abbrev pub answerBytes : ℕ
-answerBytes = numberBytes + numberBytes
+answerBytes = eightBytes + eightBytes
 
 -- the estimate, and then the margin
 abbrev pub answerOf : ℤ → ℕ → List ℕ
-answerOf e m = signedBytes numberBytes e ++ signedBytes numberBytes (pos m)
+answerOf e m = signedBytes eightBytes e ++ signedBytes eightBytes (pos m)
 
 -- on refusal the area stays
 unfoldable pub answerInto : Judged Estimate → List ℕ → Outcome (List ℕ)
-answerInto (good e) area = outcome (done answerBytes) (written (answerOf (e .estimate) (e .margin)) area)
-answerInto (fails refusal place) area = outcome (refused refusal place) area
+answerInto (good e) answer = outcome (done answerBytes) (written (answerOf (e .estimate) (e .margin)) answer)
+answerInto (fails refusal place) answer = outcome (refused refusal place) answer
 
 unfoldable pub estimate : List ℕ → List ℕ → List ℕ → List ℕ → Outcome (List ℕ)
 estimate bytes readings tolerances answer =
@@ -55,7 +55,7 @@ estimate bytes readings tolerances answer =
 -- ---- An answer, read: the first eight bytes, and the next eight.
 
 abbrev pub estimateIn : List ℕ → ℤ
-estimateIn answer = signedNumber (take numberBytes answer)
+estimateIn answer = signedNumber (take eightBytes answer)
 
 abbrev pub marginIn : List ℕ → ℤ
-marginIn answer = signedNumber (take numberBytes (drop numberBytes answer))
+marginIn answer = signedNumber (take eightBytes (drop eightBytes answer))

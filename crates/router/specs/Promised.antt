@@ -14,7 +14,7 @@ use Rattle.answers.specs.Refusals.{ROOM, SUM, READING, RANGE}
 use Rattle.answers.specs.Areas.{written}
 use Rattle.packed.specs.ReadSum.{readWhole}
 use Rattle.packed.specs.Promised.{PackedSum, AtFault}
-use Rattle.router.specs.Readings.{readingBytes, numbersOf}
+use Rattle.router.specs.Readings.{readingBytes, twoByteNumbers}
 use Rattle.router.specs.Estimate.{answerBytes, answerOf}
 
 -- ---- Readings and tolerances.
@@ -27,8 +27,8 @@ pub record RightLength (readings tolerances : List ℕ) : Type 0 where
 -- the readings are rs; the tolerances are ts, none of them negative
 pub record Given (readings tolerances : List ℕ) (rs : List ℤ) (ts : List ℕ) : Type 0 where
   pub long : RightLength readings tolerances
-  pub readings-are : numbersOf readings ≡ rs
-  pub tolerances-are : numbersOf tolerances ≡ map pos ts
+  pub readings-are : twoByteNumbers readings ≡ rs
+  pub tolerances-are : twoByteNumbers tolerances ≡ map pos ts
 
 -- no tolerance before place v is negative
 abbrev pub NoneBefore : List ℤ → ℕ → Type 0
@@ -58,7 +58,7 @@ pub data EstimateRefuses (bytes readings tolerances area : List ℕ) : ℕ → �
   no-room : length area < answerBytes → EstimateRefuses bytes readings tolerances area ROOM 0 area
   at-sum : {p : ℕ} → answerBytes ≤ length area → AtFault (readWhole variables bytes) p → EstimateRefuses bytes readings tolerances area SUM p area
   at-length : {s : Sum} → answerBytes ≤ length area → PackedSum bytes s → (RightLength readings tolerances → ⊥) → EstimateRefuses bytes readings tolerances area READING 0 area
-  at-tolerance : {s : Sum} {v : ℕ} → answerBytes ≤ length area → PackedSum bytes s → RightLength readings tolerances → FirstNegative (numbersOf tolerances) v
+  at-tolerance : {s : Sum} {v : ℕ} → answerBytes ≤ length area → PackedSum bytes s → RightLength readings tolerances → FirstNegative (twoByteNumbers tolerances) v
       → EstimateRefuses bytes readings tolerances area READING v area
   beyond : {s : Sum} {rs : List ℤ} {ts : List ℕ} → answerBytes ≤ length area → PackedSum bytes s → Given readings tolerances rs ts
       → largestWeight < size s (raisedBy rs ts) → EstimateRefuses bytes readings tolerances area RANGE 0 area

@@ -16,10 +16,10 @@ abbrev pub readingBytes : ℕ → ℕ
 readingBytes n = 2 * n
 
 -- two bytes each (bytes of another length are refused before)
-unfoldable pub numbersOf : List ℕ → List ℤ
-numbersOf [] = []
-numbersOf (low ∷ []) = []
-numbersOf (low ∷ high ∷ rest) = signedNumber (low ∷ high ∷ []) ∷ numbersOf rest
+unfoldable pub twoByteNumbers : List ℕ → List ℤ
+twoByteNumbers [] = []
+twoByteNumbers (low ∷ []) = []
+twoByteNumbers (low ∷ high ∷ rest) = signedNumber (low ∷ high ∷ []) ∷ twoByteNumbers rest
 
 -- back: how a host writes them
 unfoldable pub spelled : List ℤ → List ℕ
@@ -43,7 +43,7 @@ measured rs ts = record { readings = rs; tolerances = unsigned ts }
 -- refused at 0 if a length is not 16, and else at the first negative tolerance
 unfoldable pub judgeReadings : List ℕ → List ℕ → Judged Readings
 judgeReadings readings tolerances =
-    let ts = numbersOf tolerances in
+    let ts = twoByteNumbers tolerances in
     holding (eqb (length readings) (readingBytes variables) && eqb (length tolerances) (readingBytes variables)) READING 0
     (holding (eqb (beforeNegative ts) (length ts)) READING (beforeNegative ts)
-    (good (measured (numbersOf readings) ts)))
+    (good (measured (twoByteNumbers readings) ts)))

@@ -17,7 +17,7 @@ use Rattle.answers.specs.Judge.{Judged.good, Judged.fails, holding, andThen}
 use Rattle.nodes.specs.Node.{tableOf}
 use Rattle.formula.proofs.Passing.{table-length}
 use Rattle.text.specs.Limits.{longestText, tablePlaces}
-use Rattle.text.specs.Tree.{Tree, size, nodesOf}
+use Rattle.text.specs.Tree.{Tree, nodeCount, nodesOf}
 use Rattle.text.specs.Reader.{span, readWhole}
 use Rattle.text.specs.Text.{judgeText, tableInto, readFormula}
 use Rattle.text.specs.Inside.Laid.{Part}
@@ -47,19 +47,19 @@ module _ (text : List ℕ) (table : List ℤ) where
       no-formula e = rw (has-room, is-short, e)
 
       module _ {t : Tree} (e : readWhole text ≡ good t) where
-        pub too-many : mostNodes < size t → outcome (refused NODES 0) table ≡ readFormula text table
+        pub too-many : mostNodes < nodeCount t → outcome (refused NODES 0) table ≡ readFormula text table
         unfolding readFormula judgeText tableInto holding andThen
-        too-many h = rw (has-room, is-short, e, lt-leb (size t) mostNodes h)
+        too-many h = rw (has-room, is-short, e, lt-leb (nodeCount t) mostNodes h)
 
-        pub all-done : {nodes : ℕ} {table' : List ℤ} → nodes ≡ size t → nodes ≤ mostNodes → table' ≡ written (tableOf (nodesOf 0 t)) table
+        pub all-done : {nodes : ℕ} {table' : List ℤ} → nodes ≡ nodeCount t → nodes ≤ mostNodes → table' ≡ written (tableOf (nodesOf 0 t)) table
             → outcome (done nodes) table' ≡ readFormula text table
         unfolding readFormula judgeText tableInto holding andThen
-        all-done many few are = rw (many, are, has-room, is-short, e, le-leb (size t) mostNodes (omega arith))
+        all-done many few are = rw (many, are, has-room, is-short, e, le-leb (nodeCount t) mostNodes (omega arith))
 
 -- ---- A tree laid out in a table of its own: the numbers of its nodes stand in front.
 
 pub record LaidOut (t : Tree) (nodes : ℕ) (own : List ℤ) : Type 0 where
-  pub many : nodes ≡ size t
+  pub many : nodes ≡ nodeCount t
   pub places : length own ≡ tablePlaces
   pub front : take (3 * nodes) own ≡ tableOf (nodesOf 0 t)
 
@@ -67,7 +67,7 @@ pub stands : (text : List ℕ) (own own' : List ℤ) {t : Tree} {next nodes : �
     → nodes ≤ mostNodes → LaidOut t nodes own'
 stands text own own' {t} {nodes = nodes} e w few =
     let numbers = tableOf (nodesOf 0 t) in
-    let many : nodes ≡ size t = omega (arith, w .count-is) in
+    let many : nodes ≡ nodeCount t = omega (arith, w .count-is) in
     let long : length numbers ≡ 3 * nodes = omega (arith, table-length (nodesOf 0 t), nodes-length 0 t) in
     let is : own' ≡ sets own 0 numbers = w .laid (omega arith) in
     record {

@@ -12,7 +12,7 @@ use Rattle.nodes.specs.Node.{Kind, Kind.integer, Kind.variable, Kind.sum, Kind.
 use Rattle.answers.specs.Quoted.{quoted}
 use Rattle.text.specs.Signs.{isDigit}
 use Rattle.text.specs.Letters.{letterOf}
-use Rattle.text.specs.Tree.{Tree, size, nodesOf}
+use Rattle.text.specs.Tree.{Tree, nodeCount, nodesOf}
 use Rattle.text.specs.Reader.{takes, moreDigits, digitsAt, readAtom, readExponent, readFactor, readMore, isTimes, readTerm, isSign, signed, afterMinus, readSum, inBrackets, readWhole}
 use Rattle.text.specs.Text.{judgeText}
 
@@ -109,7 +109,7 @@ table =
     ∷ []
 
 pub cases-hold : Each Says table
-unfolding table becomes stops a b minusOne times deep quoted nodesOf size holding andThen isDigit letterOf takes moreDigits digitsAt readAtom readExponent readFactor readMore isTimes readTerm isSign signed afterMinus readSum inBrackets readWhole judgeText
+unfolding table becomes stops a b minusOne times deep quoted nodesOf nodeCount holding andThen isDigit letterOf takes moreDigits digitsAt readAtom readExponent readFactor readMore isTimes readTerm isSign signed afterMinus readSum inBrackets readWhole judgeText
 cases-hold =
     refl also refl also refl also refl also refl also refl also refl also refl
     also refl also refl also refl also refl also refl also refl also refl also refl also refl

@@ -17,7 +17,7 @@ use Rattle.formula.proofs.Passing.{table-length, node-judged, shape-judge}
 use Rattle.formula.proofs.Simplifying.{nodes-shape}
 use Rattle.text.specs.Limits.{largestExponent}
 use Rattle.text.specs.Tree as tree
-use Rattle.text.specs.Tree.{Tree, size, own, nodesOf}
+use Rattle.text.specs.Tree.{Tree, nodeCount, own, nodesOf}
 use Rattle.text.specs.Grammar.{Level, Is, Is.first, Is.minus, Is.plus, Is.less, Is.single, Is.times, Is.plain, Is.power, Is.number, Is.letter, Is.bracket}
 use Rattle.text.specs.Grammar.{Formula}
 use Rattle.text.proofs.Byte.{letter-variable}
@@ -36,36 +36,36 @@ fits-then i [] js a b = rw add-zero at b
 fits-then i (k ∷ ks) js a b = let e : i + length (k ∷ ks) ≡ i + 1 + length ks = omega arith in (a .0, fits-then (i + 1) ks js (a .1) (rw e at b))
 
 -- a tree, and what stands after it
-tree-then : (n : ℕ) (t : Tree) (js : List Kind) → Fits n (nodesOf n t) → Fits (n + size t) js → Fits n (nodesOf n t ++ js)
+tree-then : (n : ℕ) (t : Tree) (js : List Kind) → Fits n (nodesOf n t) → Fits (n + nodeCount t) js → Fits n (nodesOf n t ++ js)
 tree-then n t js a b = fits-then n (nodesOf n t) js a (rw (nodes-length n t) b)
 
 module _ (n : ℕ) (t : Tree) where
-  children : (u : Tree) → let i = n + size t + size u in T (ltb (own n t) i && ltb (own (n + size t) u) i)
-  children u = both-before (n + size t + size u) (own n t) (own (n + size t) u) (omega (arith, size-some t)) (omega (arith, size-some u))
+  children : (u : Tree) → let i = n + nodeCount t + nodeCount u in T (ltb (own n t) i && ltb (own (n + nodeCount t) u) i)
+  children u = both-before (n + nodeCount t + nodeCount u) (own n t) (own (n + nodeCount t) u) (omega (arith, size-some t)) (omega (arith, size-some u))
 
   -- two trees, and a node after them
-  two-fit : (u : Tree) (k : Kind) → T (isNode (n + size t + size u) k) → Fits n (nodesOf n t) → Fits (n + size t) (nodesOf (n + size t) u)
-      → Fits n (nodesOf n t ++ (nodesOf (n + size t) u ++ (k ∷ [])))
-  two-fit u k h a b = tree-then n t (nodesOf (n + size t) u ++ (k ∷ [])) a (tree-then (n + size t) u (k ∷ []) b (h, tt))
+  two-fit : (u : Tree) (k : Kind) → T (isNode (n + nodeCount t + nodeCount u) k) → Fits n (nodesOf n t) → Fits (n + nodeCount t) (nodesOf (n + nodeCount t) u)
+      → Fits n (nodesOf n t ++ (nodesOf (n + nodeCount t) u ++ (k ∷ [])))
+  two-fit u k h a b = tree-then n t (nodesOf (n + nodeCount t) u ++ (k ∷ [])) a (tree-then (n + nodeCount t) u (k ∷ []) b (h, tt))
 
   minus-fit : Fits n (nodesOf n t) → Fits n (nodesOf n (tree.Tree.minus t))
   unfolding nodesOf
-  minus-fit a = tree-then n t _ a (tt, (both-before (n + size t + 1) (n + size t) (own n t) (omega arith) (omega arith), tt))
+  minus-fit a = tree-then n t _ a (tt, (both-before (n + nodeCount t + 1) (n + nodeCount t) (own n t) (omega arith) (omega arith), tt))
 
 pub nodes-fit : {k : Level} {l : ℕ} {w : List ℕ} {t : Tree} → Is k l w t → (n : ℕ) → Fits n (nodesOf n t)
 unfolding nodesOf
 nodes-fit (first d) n = nodes-fit d n
 nodes-fit (minus {t = t} d) n = minus-fit n t (nodes-fit d n)
-nodes-fit (plus {t = t} {u = u} d c) n = two-fit n t u _ (children n t u) (nodes-fit d n) (nodes-fit c (n + size t))
+nodes-fit (plus {t = t} {u = u} d c) n = two-fit n t u _ (children n t u) (nodes-fit d n) (nodes-fit c (n + nodeCount t))
 nodes-fit (less {t = t} {u = u} d c) n =
     let v : Tree = tree.Tree.minus u in
-    two-fit n t v _ (children n t v) (nodes-fit d n) (minus-fit (n + size t) u (nodes-fit c (n + size t)))
+    two-fit n t v _ (children n t v) (nodes-fit d n) (minus-fit (n + nodeCount t) u (nodes-fit c (n + nodeCount t)))
 nodes-fit (single d) n = nodes-fit d n
-nodes-fit (times {t = t} {u = u} d c) n = two-fit n t u _ (children n t u) (nodes-fit d n) (nodes-fit c (n + size t))
+nodes-fit (times {t = t} {u = u} d c) n = two-fit n t u _ (children n t u) (nodes-fit d n) (nodes-fit c (n + nodeCount t))
 nodes-fit (plain d) n = nodes-fit d n
 nodes-fit (power {t = t} {e = e} d m) n =
     let small = numeral-within largestExponent (omega arith) m in
-    tree-then n t _ (nodes-fit d n) (base-before (n + size t) (own n t) e (omega (arith, size-some t)) small, tt)
+    tree-then n t _ (nodes-fit d n) (base-before (n + nodeCount t) (own n t) e (omega (arith, size-some t)) small, tt)
 nodes-fit (number m) n = (tt, tt)
 nodes-fit (letter {b = b} {v = v} e) n = (lt→ltb v variables (letter-variable b v e), tt)
 nodes-fit (bracket d) n = nodes-fit d n
@@ -103,7 +103,7 @@ nodes-passable before (k ∷ ks) f =
     (passable-then (judgeNode before k) _ (node-passable before k)
     (λ e. nodes-passable (before ++ (e ∷ [])) ks (rw (length-append before (e ∷ [])) (f .1))))
 
-pub formula-passable : {s : List ℕ} {t : Tree} → Formula s t → size t ≤ mostNodes → Passable (judgeTable (tableOf (nodesOf 0 t)))
+pub formula-passable : {s : List ℕ} {t : Tree} → Formula s t → nodeCount t ≤ mostNodes → Passable (judgeTable (tableOf (nodesOf 0 t)))
 formula-passable {t = t} d few =
-    let shape = ap isShape (table-length (nodesOf 0 t) ∙ ap (λ n. 3 * n) (nodes-length 0 t)) ∙ nodes-shape (size t) (size-some t) few in
+    let shape = ap isShape (table-length (nodesOf 0 t) ∙ ap (λ n. 3 * n) (nodes-length 0 t)) ∙ nodes-shape (nodeCount t) (size-some t) few in
     rw (shape-judge (tableOf (nodesOf 0 t)) shape) (nodes-passable [] (nodesOf 0 t) (nodes-fit d 0))

@@ -10,7 +10,7 @@ use lib.ListN.{length}
 use borrow.Author.Tests.{eqb-true}
 use Rattle.nodes.specs.Node.{Kind, Kind.integer, Kind.variable, Kind.sum, Kind.product, Kind.power}
 use Rattle.text.specs.Signs.{minusSign}
-use Rattle.text.specs.Tree.{Tree, Tree.number, Tree.letter, Tree.plus, Tree.times, Tree.raised, Tree.minus, size, own, nodesOf}
+use Rattle.text.specs.Tree.{Tree, Tree.number, Tree.letter, Tree.plus, Tree.times, Tree.raised, Tree.minus, nodeCount, own, nodesOf}
 use Rattle.text.specs.Reader.{span, byteAt, signed, afterMinus}
 use Rattle.text.specs.Inside.Laid.{putNode, Part, signedCount, signedTable}
 use Rattle.text.proofs.Byte.{decide, inside}
@@ -20,7 +20,7 @@ use Rattle.text.proofs.Nodes.{lays-one, lays-append, laid-more}
 -- ---- Numbers and letters.
 
 module _ (s : List ℕ) (at n : ℕ) (c : List ℤ) {d : List ℤ} {next : ℕ} (ahead : at < next) (within : next ≤ length s) where
-  leaf-part : (t : Tree) (k : Kind) → size t ≡ 1 → nodesOf n t ≡ k ∷ [] → d ≡ putNode c n k → Part s at n c (span t next) next (n + 1) d
+  leaf-part : (t : Tree) (k : Kind) → nodeCount t ≡ 1 → nodesOf n t ≡ k ∷ [] → d ≡ putNode c n k → Part s at n c (span t next) next (n + 1) d
   leaf-part t k one own put = record {
     next-is = refl;
     count-is = omega arith;
@@ -31,11 +31,11 @@ module _ (s : List ℕ) (at n : ℕ) (c : List ℤ) {d : List ℤ} {next : ℕ} 
   }
 
   pub number-part : (v : ℕ) → d ≡ putNode c n (integer (pos v)) → Part s at n c (span (number v) next) next (n + 1) d
-  unfolding size nodesOf
+  unfolding nodeCount nodesOf
   number-part v put = leaf-part (number v) (integer (pos v)) refl refl put
 
   pub letter-part : (v : ℕ) → d ≡ putNode c n (variable v) → Part s at n c (span (letter v) next) next (n + 1) d
-  unfolding size nodesOf
+  unfolding nodeCount nodesOf
   letter-part v put = leaf-part (letter v) (variable v) refl refl put
 
 -- ---- What was read has more bytes around it, is raised, or has a sign.
@@ -46,7 +46,7 @@ module _ {s : List ℕ} {at n : ℕ} {c d : List ℤ} {t : Tree} {next count : �
 
   pub raised-part : (e : ℕ) {end : ℕ} {d' : List ℤ} → next < end → end ≤ length s → d' ≡ putNode d count (power (count - 1) e)
       → Part s at n c (span (raised t e) end) end (count + 1) d'
-  unfolding size nodesOf
+  unfolding nodeCount nodesOf
   raised-part e {d' = d'} ahead within put = record {
     next-is = refl;
     count-is = omega arith;
@@ -61,7 +61,7 @@ module _ {s : List ℕ} {at n : ℕ} {c d : List ℤ} {t : Tree} {next count : �
   -- with a sign, it was read from an earlier place on: two nodes more are a byte more
   signed-part : (b from : ℕ) → from ≤ at → signedCount b count + 2 * from ≤ count + 2 * at
       → Part s from n c (span (signed b t) next) next (signedCount b count) (signedTable b count d)
-  unfolding signed signedCount signedTable size nodesOf
+  unfolding signed signedCount signedTable nodeCount nodesOf
   signed-part b from h few = go (eqb b minusSign) few
     where
       one : Kind
@@ -134,15 +134,15 @@ module _ (s : List ℕ) (at : ℕ) where
 
 -- a tree of two is laid so, with its own node last
 pub record Joint (join : Tree → Tree → Tree) (kind : ℕ → ℕ → Kind) : Type 0 where
-  pub sizes : (t u : Tree) → size (join t u) ≡ size t + size u + 1
-  pub nodes : (n : ℕ) (t u : Tree) → nodesOf n (join t u) ≡ nodesOf n t ++ (nodesOf (n + size t) u ++ (kind (own n t) (own (n + size t) u) ∷ []))
+  pub sizes : (t u : Tree) → nodeCount (join t u) ≡ nodeCount t + nodeCount u + 1
+  pub nodes : (n : ℕ) (t u : Tree) → nodesOf n (join t u) ≡ nodesOf n t ++ (nodesOf (n + nodeCount t) u ++ (kind (own n t) (own (n + nodeCount t) u) ∷ []))
 
 pub sums : Joint plus sum
-unfolding size nodesOf
+unfolding nodeCount nodesOf
 sums = record { sizes = λ t u. refl; nodes = λ n t u. refl }
 
 pub products : Joint times product
-unfolding size nodesOf
+unfolding nodeCount nodesOf
 products = record { sizes = λ t u. refl; nodes = λ n t u. refl }
 
 module _ {join : Tree → Tree → Tree} {kind : ℕ → ℕ → Kind} (j : Joint join kind) {s : List ℕ} {at n : ℕ} {c d : List ℤ} {t : Tree} {next count : ℕ}

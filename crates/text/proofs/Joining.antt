@@ -20,7 +20,7 @@ use Rattle.formula.proofs.Tables.{table-one}
 use Rattle.formula.proofs.Passing.{table-length, shape-judge, no-shape-judge, fault-judge}
 use Rattle.formula.proofs.Simplifying.{simplify-refuses}
 use Rattle.formula.specs.Promised.{Simplified, SimplifyRefuses, SimplifyRefuses.no-room, SimplifyRefuses.no-shape, SimplifyRefuses.at-node}
-use Rattle.text.specs.Tree.{Tree, size, nodesOf, treeValue}
+use Rattle.text.specs.Tree.{Tree, nodeCount, nodesOf, treeValue}
 use Rattle.text.specs.Grammar.{Formula}
 use Rattle.text.proofs.Trees.{nodes-length}
 use Rattle.text.proofs.Meaning.{tree-value}
@@ -37,17 +37,14 @@ typed-table {n = n} d =
 
 -- a tree's table, and areas
 module _ (t : Tree) (ws : List ℕ) (cs : List ℤ) (area : List ℕ) where
-  abbrev given : List ℤ
-  given = tableOf (nodesOf 0 t)
-
-  pub typed-value : {n : ℕ} {areas : WorkAreas} (d : Simplified given ws cs area n areas) (x : List ℤ) → value (d .sum) x ≡ treeValue t x
+  pub typed-value : {n : ℕ} {areas : WorkAreas} (d : Simplified (tableOf (nodesOf 0 t)) ws cs area n areas) (x : List ℤ) → value (d .sum) x ≡ treeValue t x
   typed-value d x = d .means .values x ∙ ap (λ ks. formulaValue ks x) (sym (table-one (nodesOf 0 t) (d .ks) (d .table-is))) ∙ tree-value t x
 
-  pub typed-simplify : {text : List ℕ} {refusal p : ℕ} {areas : WorkAreas} → Formula text t → size t ≤ mostNodes
-      → simplify given ws cs area ≡ outcome (refused refusal p) areas → (refusal ≡ ROOM) ⊎ TooMuch refusal
-  typed-simplify d few e = go (simplify-refuses given ws cs area e) (formula-passable d few)
+  pub typed-simplify : {text : List ℕ} {refusal p : ℕ} {areas : WorkAreas} → Formula text t → nodeCount t ≤ mostNodes
+      → simplify (tableOf (nodesOf 0 t)) ws cs area ≡ outcome (refused refusal p) areas → (refusal ≡ ROOM) ⊎ TooMuch refusal
+  typed-simplify d few e = go (simplify-refuses (tableOf (nodesOf 0 t)) ws cs area e) (formula-passable d few)
     where
-      go : {refusal p : ℕ} {areas : WorkAreas} → SimplifyRefuses given ws cs area refusal p areas → Passable (judgeTable given) → (refusal ≡ ROOM) ⊎ TooMuch refusal
+      go : {refusal p : ℕ} {areas : WorkAreas} → SimplifyRefuses (tableOf (nodesOf 0 t)) ws cs area refusal p areas → Passable (judgeTable (tableOf (nodesOf 0 t))) → (refusal ≡ ROOM) ⊎ TooMuch refusal
       go (no-room f) h = inl refl
-      go (no-shape r s) h = inr (subst Passable (no-shape-judge given s) h)
-      go (at-node r s f) h = inr (subst Passable (shape-judge given s ∙ fault-judge f) h)
+      go (no-shape r s) h = inr (subst Passable (no-shape-judge (tableOf (nodesOf 0 t)) s) h)
+      go (at-node r s f) h = inr (subst Passable (shape-judge (tableOf (nodesOf 0 t)) s ∙ fault-judge f) h)

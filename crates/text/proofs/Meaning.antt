@@ -9,7 +9,7 @@ use lib.Seq.{getD-at}
 use Rattle.algebra.proofs.Numbers.Whole.{negℤ-*ℤ, one-*ℤ}
 use Rattle.nodes.specs.Node.{Kind}
 use Rattle.formula.specs.Meaning.{eachNode, nodeValue, formulaValue}
-use Rattle.text.specs.Tree.{Tree, Tree.number, Tree.letter, Tree.plus, Tree.times, Tree.raised, Tree.minus, size, own, nodesOf, treeValue}
+use Rattle.text.specs.Tree.{Tree, Tree.number, Tree.letter, Tree.plus, Tree.times, Tree.raised, Tree.minus, nodeCount, own, nodesOf, treeValue}
 use Rattle.text.proofs.Trees.{size-some, nodes-length}
 
 each-then : {A : Type 0} (step : List A → Kind → A) (before : List A) (ks js : List Kind)
@@ -38,13 +38,13 @@ kept-then a b h = record { long = b .long; same = λ j k. b .same j (omega arith
 module _ (x : List ℤ) where
   -- the tree's nodes come after n others
   record Valued (n : ℕ) (t : Tree) (before after : List ℤ) : Type 0 where
-    kept : Kept n (n + size t) before after
+    kept : Kept n (n + nodeCount t) before after
     value : getD after (own n t) (pos 0) ≡ treeValue t x
 
-  still-valued : {n m : ℕ} {t : Tree} {before vs ws : List ℤ} → Valued n t before vs → Kept (n + size t) m vs ws → getD ws (own n t) (pos 0) ≡ treeValue t x
+  still-valued : {n m : ℕ} {t : Tree} {before vs ws : List ℤ} → Valued n t before vs → Kept (n + nodeCount t) m vs ws → getD ws (own n t) (pos 0) ≡ treeValue t x
   still-valued {n} {t = t} a b = b .same (own n t) (omega (arith, size-some t)) ∙ a .value
 
-  own-valued : {n m : ℕ} {t : Tree} {before vs : List ℤ} (v : ℤ) → Kept n m before vs → m + 1 ≡ n + size t → v ≡ treeValue t x
+  own-valued : {n m : ℕ} {t : Tree} {before vs : List ℤ} (v : ℤ) → Kept n m before vs → m + 1 ≡ n + nodeCount t → v ≡ treeValue t x
       → Valued n t before (vs ++ (v ∷ []))
   own-valued {n} {t = t} {vs = vs} v a e is = record {
     kept = rw (← e) (kept-more v a (omega (arith, size-some t)));
@@ -53,25 +53,25 @@ module _ (x : List ℤ) where
 
   -- after the node of -1
   minus-valued : {n : ℕ} {t : Tree} {before : List ℤ} (vs : List ℤ) → Valued n t before vs → let ws = vs ++ (negsuc 0 ∷ []) in
-      Valued n (minus t) before (ws ++ ((getD ws (n + size t) (pos 0) *ℤ getD ws (own n t) (pos 0)) ∷ []))
-  unfolding treeValue size
+      Valued n (minus t) before (ws ++ ((getD ws (n + nodeCount t) (pos 0) *ℤ getD ws (own n t) (pos 0)) ∷ []))
+  unfolding treeValue nodeCount
   minus-valued {n} {t} vs a =
       let one-more = kept-more (negsuc 0) (kept-all (a .kept .long)) (omega arith) in
-      let left = getD-at vs (negsuc 0) [] (pos 0) (n + size t) (a .kept .long) in
+      let left = getD-at vs (negsuc 0) [] (pos 0) (n + nodeCount t) (a .kept .long) in
       own-valued _ (kept-then (a .kept) one-more (omega arith)) (omega arith)
       (ap₂ _*ℤ_ left (still-valued a one-more) ∙ negℤ-*ℤ (pos 1) (treeValue t x) ∙ ap negℤ (one-*ℤ (treeValue t x)))
 
   tree-valued : (t : Tree) (n : ℕ) (before : List ℤ) → length before ≡ n → Valued n t before (eachNode (nodeValue x) before (nodesOf n t))
-  unfolding nodesOf eachNode nodeValue treeValue size
+  unfolding nodesOf eachNode nodeValue treeValue nodeCount
   tree-valued (number v) n before h = own-valued _ (kept-all h) (omega arith) refl
   tree-valued (letter v) n before h = own-valued _ (kept-all h) (omega arith) refl
   tree-valued (plus t u) n before h =
       let a = tree-valued t n before h in
-      let b = tree-valued u (n + size t) _ (a .kept .long) in
+      let b = tree-valued u (n + nodeCount t) _ (a .kept .long) in
       rw (each-then, each-then) (own-valued _ (kept-then (a .kept) (b .kept) (omega arith)) (omega arith) (ap₂ _+ℤ_ (still-valued a (b .kept)) (b .value)))
   tree-valued (times t u) n before h =
       let a = tree-valued t n before h in
-      let b = tree-valued u (n + size t) _ (a .kept .long) in
+      let b = tree-valued u (n + nodeCount t) _ (a .kept .long) in
       rw (each-then, each-then) (own-valued _ (kept-then (a .kept) (b .kept) (omega arith)) (omega arith) (ap₂ _*ℤ_ (still-valued a (b .kept)) (b .value)))
   tree-valued (raised t e) n before h =
       let a = tree-valued t n before h in

@@ -10,7 +10,7 @@ use Rattle.algebra.specs.Limits.{mostNodes}
 use Rattle.nodes.specs.Node.{Kind, numbersOf, tableOf}
 use Rattle.packed.proofs.Writing.{sets-append}
 use Rattle.formula.proofs.Passing.{table-length}
-use Rattle.text.specs.Tree.{Tree, size, nodesOf}
+use Rattle.text.specs.Tree.{Tree, nodeCount, nodesOf}
 use Rattle.text.specs.Inside.Laid.{putNode, Laid}
 use Rattle.text.proofs.Table.{put-within}
 use Rattle.text.proofs.Trees.{nodes-length}
@@ -36,7 +36,7 @@ lays-append ks js n m c d e same f g h =
     g (omega arith) ∙ rw (was, from, table-append) (sets-append c (3 * n) (tableOf ks) (tableOf js))
 
 -- a tree whose nodes are those of t, and more
-pub laid-more : (t u : Tree) (ks : List Kind) (n m : ℕ) (c d e : List ℤ) → m ≡ n + size t → nodesOf n u ≡ nodesOf n t ++ ks
+pub laid-more : (t u : Tree) (ks : List Kind) (n m : ℕ) (c d e : List ℤ) → m ≡ n + nodeCount t → nodesOf n u ≡ nodesOf n t ++ ks
     → Laid t n c d → Lays ks m d e → Laid u n c e
 laid-more t u ks n m c d e same are f g h =
     let first = nodes-length n t in

@@ -14,7 +14,7 @@ use Rattle.answers.specs.Areas.{written}
 use Rattle.answers.specs.Judge.{Judged, Judged.good, Judged.fails}
 use Rattle.nodes.specs.Node.{tableOf}
 use Rattle.text.specs.Limits.{longestText, tablePlaces}
-use Rattle.text.specs.Tree.{Tree, size, nodesOf}
+use Rattle.text.specs.Tree.{Tree, nodeCount, nodesOf}
 use Rattle.text.specs.Grammar.{Formula}
 use Rattle.text.specs.Reader.{readWhole}
 use Rattle.text.specs.Text.{readFormula}
@@ -49,17 +49,17 @@ module _ (text : List ℕ) (table : List ℤ) where
   read-so : tablePlaces ≤ length table → length text ≤ longestText → (j : Judged Tree) → readWhole text ≡ j → Explains (readFormula text table)
   read-so r s (good t) e =
       let d = formula-read text t e in
-      decide (leb (size t) mostNodes)
-      (λ f. let typed : Typed text table (size t) (written (tableOf (nodesOf 0 t)) table) = record {
+      decide (leb (nodeCount t) mostNodes)
+      (λ f. let typed : Typed text table (nodeCount t) (written (tableOf (nodesOf 0 t)) table) = record {
         tree = t;
         room = r;
         short = s;
         formula = d;
-        few = leb-true (size t) mostNodes f;
+        few = leb-true (nodeCount t) mostNodes f;
         many = refl;
         table-is = refl;
       } in subst Explains (sym (typed-accepts typed)) typed)
-      (λ f. refused-so (too-many r s d (leb-false (size t) mostNodes f)))
+      (λ f. refused-so (too-many r s d (leb-false (nodeCount t) mostNodes f)))
   read-so r s (fails refusal p) e = refused-so (no-formula r s (stops-none text refusal p e) (stops-longest text refusal p e .1))
 
   explained : Explains (readFormula text table)

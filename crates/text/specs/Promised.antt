@@ -9,7 +9,7 @@ use Rattle.answers.specs.Refusals.{ROOM, TEXT, NODES}
 use Rattle.answers.specs.Areas.{written}
 use Rattle.nodes.specs.Node.{tableOf}
 use Rattle.text.specs.Limits.{longestText, tablePlaces}
-use Rattle.text.specs.Tree.{Tree, size, nodesOf}
+use Rattle.text.specs.Tree.{Tree, nodeCount, nodesOf}
 use Rattle.text.specs.Grammar.{Formula, Longest}
 
 -- it is done: the text is a formula, and the nodes of its tree are in the table area
@@ -18,8 +18,8 @@ pub record Typed (text : List ℕ) (table : List ℤ) (n : ℕ) (table' : List �
   pub room : tablePlaces ≤ length table
   pub short : length text ≤ longestText
   pub formula : Formula text tree
-  pub few : size tree ≤ mostNodes
-  pub many : n ≡ size tree
+  pub few : nodeCount tree ≤ mostNodes
+  pub many : n ≡ nodeCount tree
   pub table-is : table' ≡ written (tableOf (nodesOf 0 tree)) table
 
 -- it is refused: the refusal, its place, and the table area, which stays
@@ -28,4 +28,4 @@ pub data TextRefuses (text : List ℕ) (table : List ℤ) : ℕ → ℕ → List
   too-long : tablePlaces ≤ length table → longestText < length text → TextRefuses text table TEXT longestText table
   no-formula : {p : ℕ} → tablePlaces ≤ length table → length text ≤ longestText → ((t : Tree) → Formula text t → ⊥) → Longest text p
       → TextRefuses text table TEXT p table
-  too-many : {t : Tree} → tablePlaces ≤ length table → length text ≤ longestText → Formula text t → mostNodes < size t → TextRefuses text table NODES 0 table
+  too-many : {t : Tree} → tablePlaces ≤ length table → length text ≤ longestText → Formula text t → mostNodes < nodeCount t → TextRefuses text table NODES 0 table

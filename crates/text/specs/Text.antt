@@ -14,17 +14,17 @@ use Rattle.answers.specs.Judge.{Judged, Judged.good, Judged.fails, holding, and
 use Rattle.nodes.specs.Node.{tableOf}
 use Rattle.formula.specs.Simplify.{tableSum}
 use Rattle.text.specs.Limits.{longestText, tablePlaces}
-use Rattle.text.specs.Tree.{Tree, size, nodesOf}
+use Rattle.text.specs.Tree.{Tree, nodeCount, nodesOf}
 use Rattle.text.specs.Reader.{readWhole}
 
 -- the length first, then the reading, then the number of nodes
 unfoldable pub judgeText : List ℕ → Judged Tree
 judgeText text =
     holding (leb (length text) longestText) TEXT longestText
-    (andThen (readWhole text) (λ t. holding (leb (size t) mostNodes) NODES 0 (good t)))
+    (andThen (readWhole text) (λ t. holding (leb (nodeCount t) mostNodes) NODES 0 (good t)))
 
 unfoldable pub tableInto : Judged Tree → List ℤ → Outcome (List ℤ)
-tableInto (good t) table = outcome (done (size t)) (written (tableOf (nodesOf 0 t)) table)
+tableInto (good t) table = outcome (done (nodeCount t)) (written (tableOf (nodesOf 0 t)) table)
 tableInto (fails refusal place) table = outcome (refused refusal place) table
 
 unfoldable pub readFormula : List ℕ → List ℤ → Outcome (List ℤ)

@@ -16,27 +16,27 @@ pub data Tree : Type 0 where
   minus : Tree → Tree
 
 -- how many nodes it has
-unfoldable pub size : Tree → ℕ
-size (number v) = 1
-size (letter v) = 1
-size (plus t u) = size t + size u + 1
-size (times t u) = size t + size u + 1
-size (raised t e) = size t + 1
-size (minus t) = size t + 2
+unfoldable pub nodeCount : Tree → ℕ
+nodeCount (number v) = 1
+nodeCount (letter v) = 1
+nodeCount (plus t u) = nodeCount t + nodeCount u + 1
+nodeCount (times t u) = nodeCount t + nodeCount u + 1
+nodeCount (raised t e) = nodeCount t + 1
+nodeCount (minus t) = nodeCount t + 2
 
 -- the index of a tree's own node, which is its last, if its first is node n
 abbrev pub own : ℕ → Tree → ℕ
-own n t = n + size t - 1
+own n t = n + nodeCount t - 1
 
 -- the nodes, if the first of them is node n: left operand, right operand, own node. A minus is integer -1 and the product of -1's node and the
 -- term's
 unfoldable pub nodesOf : ℕ → Tree → List Kind
 nodesOf n (number v) = integer (pos v) ∷ []
 nodesOf n (letter v) = variable v ∷ []
-nodesOf n (plus t u) = nodesOf n t ++ (nodesOf (n + size t) u ++ (sum (own n t) (own (n + size t) u) ∷ []))
-nodesOf n (times t u) = nodesOf n t ++ (nodesOf (n + size t) u ++ (product (own n t) (own (n + size t) u) ∷ []))
+nodesOf n (plus t u) = nodesOf n t ++ (nodesOf (n + nodeCount t) u ++ (sum (own n t) (own (n + nodeCount t) u) ∷ []))
+nodesOf n (times t u) = nodesOf n t ++ (nodesOf (n + nodeCount t) u ++ (product (own n t) (own (n + nodeCount t) u) ∷ []))
 nodesOf n (raised t e) = nodesOf n t ++ (power (own n t) e ∷ [])
-nodesOf n (minus t) = nodesOf n t ++ (integer (negsuc 0) ∷ product (n + size t) (own n t) ∷ [])
+nodesOf n (minus t) = nodesOf n t ++ (integer (negsuc 0) ∷ product (n + nodeCount t) (own n t) ∷ [])
 
 -- the value, where the variables have the values x. (A variable that is given none counts as 1.)
 unfoldable pub treeValue : Tree → List ℤ → ℤ

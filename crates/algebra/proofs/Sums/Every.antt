@@ -25,16 +25,16 @@ module _ (P : Pattern → Type 0) where
   append-every [] m h k = k
   append-every (t ∷ l) m h k = (h .0, append-every l m (h .1) k)
 
-  place-every : (o : Ordering) (t u : Term) (s after : Sum) → P (t .pattern) → P (u .pattern) → Every P s → Every P after → Every P (settle o t u s after)
+  settle-every : (o : Ordering) (t u : Term) (s after : Sum) → P (t .pattern) → P (u .pattern) → Every P s → Every P after → Every P (settle o t u s after)
   unfolding settle
-  place-every Ordering·lt t u s after h k l m = (h, (k, l))
-  place-every Ordering·eq t u s after h k l m = (k, l)
-  place-every Ordering·gt t u s after h k l m = (k, m)
+  settle-every Ordering·lt t u s after h k l m = (h, (k, l))
+  settle-every Ordering·eq t u s after h k l m = (k, l)
+  settle-every Ordering·gt t u s after h k l m = (k, m)
 
   insert-every : (t : Term) (s : Sum) → P (t .pattern) → Every P s → Every P (insert t s)
   unfolding insert
   insert-every t [] h k = (h, tt)
-  insert-every t (u ∷ s) h k = place-every (order (t .pattern) (u .pattern)) t u s (insert t s) h (k .0) (k .1) (insert-every t s h (k .1))
+  insert-every t (u ∷ s) h k = settle-every (order (t .pattern) (u .pattern)) t u s (insert t s) h (k .0) (k .1) (insert-every t s h (k .1))
 
   pub gather-every : (l : List Term) → Every P l → Every P (gather l)
   unfolding gather

@@ -78,28 +78,28 @@ ahead-trans p q (t ∷ s) h k = is-before (order p (t .pattern)) (order-trans p 
 
 -- ---- Insertion.
 
-place-ahead : (p : Pattern) (o : Ordering) (t u : Term) (s after : Sum) → order p (t .pattern) ≡ Ordering·lt → order p (u .pattern) ≡ Ordering·lt → T (ahead p (settle o t u s after))
+settle-ahead : (p : Pattern) (o : Ordering) (t u : Term) (s after : Sum) → order p (t .pattern) ≡ Ordering·lt → order p (u .pattern) ≡ Ordering·lt → T (ahead p (settle o t u s after))
 unfolding settle ahead
-place-ahead p Ordering·lt t u s after h k = is-before (order p (t .pattern)) h
-place-ahead p Ordering·eq t u s after h k = is-before (order p (u .pattern)) k
-place-ahead p Ordering·gt t u s after h k = is-before (order p (u .pattern)) k
+settle-ahead p Ordering·lt t u s after h k = is-before (order p (t .pattern)) h
+settle-ahead p Ordering·eq t u s after h k = is-before (order p (u .pattern)) k
+settle-ahead p Ordering·gt t u s after h k = is-before (order p (u .pattern)) k
 
 insert-ahead : (p : Pattern) (t : Term) (s : Sum) → order p (t .pattern) ≡ Ordering·lt → T (ahead p s) → T (ahead p (insert t s))
 unfolding insert ahead
 insert-ahead p t [] h k = is-before (order p (t .pattern)) h
-insert-ahead p t (u ∷ s) h k = place-ahead p (order (t .pattern) (u .pattern)) t u s (insert t s) h (before-is (order p (u .pattern)) k)
+insert-ahead p t (u ∷ s) h k = settle-ahead p (order (t .pattern) (u .pattern)) t u s (insert t s) h (before-is (order p (u .pattern)) k)
 
-place-order : (o : Ordering) (t u : Term) (s after : Sum) → order (t .pattern) (u .pattern) ≡ o → T (inOrder (u ∷ s)) → T (inOrder after)
+settle-order : (o : Ordering) (t u : Term) (s after : Sum) → order (t .pattern) (u .pattern) ≡ o → T (inOrder (u ∷ s)) → T (inOrder after)
     → (order (u .pattern) (t .pattern) ≡ Ordering·lt → T (ahead (u .pattern) after)) → T (inOrder (settle o t u s after))
 unfolding settle ahead
-place-order Ordering·lt t u s after e h k f = order-cons t (u ∷ s) (is-before (order (t .pattern) (u .pattern)) e) h
-place-order Ordering·eq t u s after e h k f = order-cons (term _ (u .pattern)) s (order-head u s h) (order-tail u s h)
-place-order Ordering·gt t u s after e h k f = order-cons u after (f (order-back (t .pattern) (u .pattern) e)) k
+settle-order Ordering·lt t u s after e h k f = order-cons t (u ∷ s) (is-before (order (t .pattern) (u .pattern)) e) h
+settle-order Ordering·eq t u s after e h k f = order-cons (term _ (u .pattern)) s (order-head u s h) (order-tail u s h)
+settle-order Ordering·gt t u s after e h k f = order-cons u after (f (order-back (t .pattern) (u .pattern) e)) k
 
 pub insert-order : (t : Term) (s : Sum) → T (inOrder s) → T (inOrder (insert t s))
 unfolding insert
 insert-order t [] h = order-cons t [] (unfold ahead in tt) h
-insert-order t (u ∷ s) h = place-order (order (t .pattern) (u .pattern)) t u s (insert t s) refl h (insert-order t s (order-tail u s h)) (λ e. insert-ahead (u .pattern) t s e (order-head u s h))
+insert-order t (u ∷ s) h = settle-order (order (t .pattern) (u .pattern)) t u s (insert t s) refl h (insert-order t s (order-tail u s h)) (λ e. insert-ahead (u .pattern) t s e (order-head u s h))
 
 pub gather-order : (l : List Term) → T (inOrder (gather l))
 unfolding gather

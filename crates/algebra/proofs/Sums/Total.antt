@@ -72,19 +72,19 @@ zero-is (pos (suc n)) h = cc
 zero-is (negsuc n) h = cc
 
 module _ (f : Term → ℤ) (A : Additive f) where
-  place-total : (o : Ordering) (t u : Term) (s after : Sum) → (o ≡ Ordering·eq → t .pattern ≡ u .pattern)
+  settle-total : (o : Ordering) (t u : Term) (s after : Sum) → (o ≡ Ordering·eq → t .pattern ≡ u .pattern)
       → total f after ≡ f t +ℤ total f s → total f (settle o t u s after) ≡ f t +ℤ (f u +ℤ total f s)
   unfolding total settle
-  place-total Ordering·lt t u s after h e = refl
-  place-total Ordering·eq t u s after h e =
+  settle-total Ordering·lt t u s after h e = refl
+  settle-total Ordering·eq t u s after h e =
       ap (λ z. z +ℤ total f s) (A .plus (t .coefficient) (u .coefficient) (u .pattern) ∙ ap (λ p. f (term (t .coefficient) p) +ℤ f u) (sym (h refl)))
       ∙ +ℤ-assoc (f t) (f u) (total f s)
-  place-total Ordering·gt t u s after h e = rw e (+ℤ-left-comm (f u) (f t) (total f s))
+  settle-total Ordering·gt t u s after h e = rw e (+ℤ-left-comm (f u) (f t) (total f s))
 
   pub insert-total : (t : Term) (s : Sum) → total f (insert t s) ≡ f t +ℤ total f s
   unfolding total insert
   insert-total t [] = refl
-  insert-total t (u ∷ s) = place-total (order (t .pattern) (u .pattern)) t u s (insert t s) (order-eq (t .pattern) (u .pattern)) (insert-total t s)
+  insert-total t (u ∷ s) = settle-total (order (t .pattern) (u .pattern)) t u s (insert t s) (order-eq (t .pattern) (u .pattern)) (insert-total t s)
 
   pub gather-total : (l : List Term) → total f (gather l) ≡ total f l
   unfolding total gather

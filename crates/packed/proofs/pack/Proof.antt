@@ -44,7 +44,7 @@ write-sum-requires : tie.Need-write-sum-requires
 write-sum-requires c κs =
     let p = passed (c .before .before .before) in
     let every = every-good p (omega (arith, c .before .before .good-terms .ensures, c .before .if5 .left)) in
-    (p .words, (p .coefficients, (every-valid p every, has-room p every)))
+    (p .patterns-enough, (p .coefficients-enough, (every-valid p every, has-room p every)))
 
 same-length : tie.Need-same-length
 same-length c = search needs

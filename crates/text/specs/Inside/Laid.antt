@@ -15,7 +15,7 @@ use Rattle.text.specs.declared.readers.Read.{Read}
 use Rattle.text.specs.declared.readers.Read.the-variants.{At, Fault}
 use Rattle.text.specs.Limits.{longestText}
 use Rattle.text.specs.Signs.{minusSign}
-use Rattle.text.specs.Tree.{Tree, size, nodesOf}
+use Rattle.text.specs.Tree.{Tree, nodeCount, nodesOf}
 use Rattle.text.specs.Reader.{Span}
 
 -- the table after node n was put into it: a node past the last place is left out, and counted all the same
@@ -30,12 +30,12 @@ pub record Ready (s : List ℕ) (at nodes : ℕ) : Type 0 where
 
 -- d is the table c with the nodes of the tree t put in from node n on, if there are places for all of them
 abbrev pub Laid : Tree → ℕ → List ℤ → List ℤ → Type 0
-Laid t n c d = n + size t ≤ mostNodes → d ≡ sets c (3 * n) (tableOf (nodesOf n t))
+Laid t n c d = n + nodeCount t ≤ mostNodes → d ≡ sets c (3 * n) (tableOf (nodesOf n t))
 
 -- what was read at a place, after n nodes
 pub record Part (s : List ℕ) (at n : ℕ) (c : List ℤ) (p : Span) (next count : ℕ) (d : List ℤ) : Type 0 where
   pub next-is : p .next ≡ next
-  pub count-is : count ≡ n + size (p .tree)
+  pub count-is : count ≡ n + nodeCount (p .tree)
   pub laid : Laid (p .tree) n c d
   pub ahead : at < next
   pub within : next ≤ length s

@@ -3,7 +3,7 @@ use mathlib.Core.Path.{_≡_, ap, _∙_}
 use Prim.Native.Nat.{_^_, _-_, suc}
 use native.Mathlib.Omega.{arith}
 use Rattle.numbers.proofs.Signs.{Up, Down, at-pos, at-neg}
-use Rattle.router.specs.Bytes.{byteValues, numberBytes, plainBytes, signedBytes}
+use Rattle.router.specs.Bytes.{byteValues, eightBytes, plainBytes, signedBytes}
 use Rattle.router.proofs.bytes.as_unsigned.Statement.{statement}
 use Rattle.router.proofs.bytes.as_unsigned.Tie as tie
 
@@ -30,14 +30,14 @@ sub-result c = let d = down c in rw (d .flipped) (omega arith)
 
 returns : tie.Need-returns
 unfolding signedBytes
-returns c = let u = up c in rw (u .bits) (ap (signedBytes numberBytes) (u .is))
+returns c = let u = up c in rw (u .bits) (ap (signedBytes eightBytes) (u .is))
 
 returns-2 : tie.Need-returns-2
 unfolding signedBytes
 returns-2 c =
     let d = down c in
-    let bits : byteValues ^ numberBytes - suc (d .k) ≡ 18446744073709551615 - d .k = omega arith in
-    rw (d .flipped) (ap (signedBytes numberBytes) (d .is) ∙ ap (plainBytes numberBytes) bits)
+    let bits : byteValues ^ eightBytes - suc (d .k) ≡ 18446744073709551615 - d .k = omega arith in
+    rw (d .flipped) (ap (signedBytes eightBytes) (d .is) ∙ ap (plainBytes eightBytes) bits)
 
 pub as-unsigned-spec : {M : Type 1} → statement M
 as-unsigned-spec = tie.close (tie.spec cast-result add-less sub-less cast-result-2 sub-result returns returns-2)

@@ -8,14 +8,14 @@ use lib.ListN.{length, getD}
 use borrow.Author.Needs.{needs}
 use Rattle.answers.proofs.Writes.{written-all}
 use Rattle.answers.proofs.Copies.{Copying, start, again, ended}
-use Rattle.router.specs.Readings.{numbersOf}
+use Rattle.router.specs.Readings.{twoByteNumbers}
 use Rattle.router.proofs.Numbering.{numbers-length, numbers-at}
 use Rattle.router.proofs.TwoBytes.{byte-fits, product-fits, sum-fits, less-fits, lower-half, upper-half}
 use Rattle.router.proofs.bytes.read_numbers.Statement.{statement}
 use Rattle.router.proofs.bytes.read_numbers.Tie as tie
 
 abbrev Inv-loop : tie.InvT-loop
-Inv-loop bytes numbers₀ v₀ numbers v = Copying numbers₀ (numbersOf bytes) (length numbers₀) numbers v
+Inv-loop bytes numbers₀ v₀ numbers v = Copying numbers₀ (twoByteNumbers bytes) (length numbers₀) numbers v
 
 abbrev μ-loop : tie.MeasureT-loop
 μ-loop bytes numbers₀ v₀ numbers v = length numbers₀ - v

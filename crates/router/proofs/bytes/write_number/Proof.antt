@@ -8,23 +8,23 @@ use mir.Val.{ofZ, toZ}
 use mir.ValLaws.{toZ-ofZ}
 use borrow.Author.Needs.{needs}
 use Rattle.packed.proofs.Writing.{Writing, start, next, ended}
-use Rattle.router.specs.Bytes.{byteValues, numberBytes, plainBytes, signedBytes}
+use Rattle.router.specs.Bytes.{byteValues, eightBytes, plainBytes, signedBytes}
 use Rattle.router.proofs.Complement.{plain-length, plain-next, plain-none, bytes-length}
 use Rattle.router.proofs.bytes.write_number.Statement.{statement}
 use Rattle.router.proofs.bytes.write_number.Tie as tie
 
 abbrev Inv-loop : tie.InvT-loop
-Inv-loop area₀ at n left₀ k₀ area left k = Writing area₀ at (signedBytes numberBytes (toZ w64 n)) area (at + k) (plainBytes (numberBytes - k) left)
+Inv-loop area₀ at n left₀ k₀ area left k = Writing area₀ at (signedBytes eightBytes (toZ w64 n)) area (at + k) (plainBytes (eightBytes - k) left)
 
 abbrev μ-loop : tie.MeasureT-loop
-μ-loop area₀ at n left₀ k₀ area left k = numberBytes - k
+μ-loop area₀ at n left₀ k₀ area left k = eightBytes - k
 
 as-unsigned-requires : tie.Need-as-unsigned-requires Inv-loop μ-loop
 as-unsigned-requires c κs = search needs
 
 loop-holds : tie.Need-loop-holds Inv-loop μ-loop
 loop-holds c =
-    next [] _ (c .as-unsigned .ensures) (start _ _ _ (omega (arith, c .before .before .pre, bytes-length numberBytes (toZ w64 (ofZ w64 (c .before .before .args .n)))))) refl refl
+    next [] _ (c .as-unsigned .ensures) (start _ _ _ (omega (arith, c .before .before .pre, bytes-length eightBytes (toZ w64 (ofZ w64 (c .before .before .args .n)))))) refl refl
 
 cast-area : tie.Need-cast-area Inv-loop μ-loop
 cast-area c = search needs
@@ -33,7 +33,7 @@ add-area : tie.Need-add-area Inv-loop μ-loop
 add-area c = search needs
 
 slice-write-area : tie.Need-slice-write-area Inv-loop μ-loop
-slice-write-area c = omega (arith, plain-length (numberBytes - c .before .loop .k) (c .before .loop .left))
+slice-write-area c = omega (arith, plain-length (eightBytes - c .before .loop .k) (c .before .loop .left))
 
 add-k : tie.Need-add-k Inv-loop μ-loop
 add-k c = search needs
@@ -44,7 +44,7 @@ loop-less c = search needs
 loop-again : tie.Need-loop-again Inv-loop μ-loop
 loop-again c =
     let left = c .before .loop .left in
-    next (left % byteValues ∷ []) _ (plain-next numberBytes (c .before .loop .k) left (c .loop-test .taken)) (c .before .loop .inv) refl (omega arith)
+    next (left % byteValues ∷ []) _ (plain-next eightBytes (c .before .loop .k) left (c .loop-test .taken)) (c .before .loop .inv) refl (omega arith)
 
 same-length : tie.Need-same-length Inv-loop μ-loop
 same-length c = search needs
@@ -52,7 +52,7 @@ same-length c = search needs
 returns : tie.Need-returns Inv-loop μ-loop
 returns c =
     let started = c .before .before .before .before in
-    rw (toZ-ofZ w64 (started .args .n) (started .fits .n)) at (ended (plain-none numberBytes (c .before .loop .k) _ (c .loop-test .left)) (c .before .loop .inv) .1)
+    rw (toZ-ofZ w64 (started .args .n) (started .fits .n)) at (ended (plain-none eightBytes (c .before .loop .k) _ (c .loop-test .left)) (c .before .loop .inv) .1)
 
 pub write-number-spec : {M : Type 1} → statement M
 write-number-spec =
