@@ -71,7 +71,7 @@ function load(file,    line, depth, head, margin, heads, heading, i, name, kind,
         }
         # an equation of the definition before: a body
         if (name != "" && depth == at && index(substr(line, at + 1), name " ") == 1 && substr(line, at + 1) !~ ("^[^ ]+ :")) {
-            state = kind == "abbrev" ? "said" : "proof"
+            state = kind == "abbrev" || kind == "unfoldable" ? "said" : "proof"
             if (state == "said") says[file, name] = says[file, name] " " line
             continue
         }
@@ -94,7 +94,7 @@ function load(file,    line, depth, head, margin, heads, heading, i, name, kind,
         }
         kind = "theorem"
         text = substr(line, depth + 1)
-        while (match(text, /^(pub|abbrev|record|data) /)) {
+        while (match(text, /^(pub|abbrev|unfoldable|record|data) /)) {
             if (text !~ /^pub /) kind = substr(text, 1, RLENGTH - 1)
             text = substr(text, RLENGTH + 1)
         }

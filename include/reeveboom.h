@@ -21,7 +21,7 @@
 #include <stddef.h>
 #include <stdint.h>
 
-/* Version four of the tool. The first number goes up by 1 with an answer, a layout of bytes or a declaration that is no longer as it was, the second with what is added
+/* Version 4.0: three tools of this kind came before it. The first number goes up by 1 with an answer, a layout of bytes or a declaration that is no longer as it was, the second with what is added
  * beside them. As one number, for #if: 100 x the first + the second. */
 #define REEVEBOOM_VERSION_MAJOR 4
 #define REEVEBOOM_VERSION_MINOR 0
@@ -120,7 +120,7 @@ static inline const char *reeveboom_refusal_name(unsigned refusal) {
     }
 }
 
-/* What it says, and what its place is: a sentence to print, without a capital and a full stop. */
+/* What it says, and what its place is: a sentence to print, without a capital or a full stop. */
 static inline const char *reeveboom_refusal_sentence(unsigned refusal) {
     switch (refusal) {
     case 0: return "it is done";
@@ -128,12 +128,12 @@ static inline const char *reeveboom_refusal_sentence(unsigned refusal) {
     case REEVEBOOM_SHAPE: return "the table's length is not 3 x (1 to 64), or there are more terms to pack than 128 or than an area has places";
     case REEVEBOOM_NODE: return "a node of the table breaks its rules; the place is the node";
     case REEVEBOOM_DEGREE: return "a degree is above 60; the place is the node of the table, or the pair of the list";
-    case REEVEBOOM_WEIGHT: return "a weight is above 2^62; the place is the node of the table, or the pair of the list";
+    case REEVEBOOM_WEIGHT: return "a weight is above 2^62; the place is the node of the table, or the pair of the list, and 0 for a slope";
     case REEVEBOOM_SPREAD: return "there are more than 128 different patterns; the place is the node of the table, or the pair of the list";
-    case REEVEBOOM_SUM: return "the packed sum is at fault; the place is the byte, or the term where terms are packed";
-    case REEVEBOOM_LIST: return "the list is at fault; the place is the byte";
+    case REEVEBOOM_SUM: return "the packed sum is damaged or ends too soon; the place is the byte, or its length if it ends too soon; where terms are packed, the first bad term";
+    case REEVEBOOM_LIST: return "the list is damaged or ends too soon; the place is the byte, or its length if it ends too soon";
     case REEVEBOOM_VARIABLE: return "there is no such variable; in a list the place is the byte of its number";
-    case REEVEBOOM_READING: return "readings or tolerances are not 16 bytes, or a tolerance is negative; the place is its variable, 0 for a";
+    case REEVEBOOM_READING: return "readings or tolerances are not 16 bytes, and the place is 0; or a tolerance is negative, and the place is its variable, 0 for a";
     case REEVEBOOM_RANGE: return "the raised value is above 2^62, so there is no estimate";
     case REEVEBOOM_TEXT: return "the text is no formula; the place is how many of its bytes some formula begins with, or 1024 if it is longer than that";
     case REEVEBOOM_NODES: return "the text needs more than 64 nodes";

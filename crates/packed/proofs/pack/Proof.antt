@@ -28,8 +28,8 @@ passed : (d : tie.Else4) → let args = d .before .before .before .before .befor
 passed d = record {
   room = d .before .before .before .if1 .left;
   few = d .before .before .if2 .left;
-  words = d .before .if3 .left;
-  coefficients = d .if4 .left;
+  patterns-enough = d .before .if3 .left;
+  coefficients-enough = d .if4 .left;
 }
 
 good-terms-requires : tie.Need-good-terms-requires
