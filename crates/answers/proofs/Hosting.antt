@@ -4,12 +4,12 @@ use mathlib.Core.Bool.{Bool, true, false}
 use Prim.Native.Nat.{ℕ, _+_, _*_, _^_, _/_, _%_, _≤_, _<_}
 use native.Mathlib.Omega.{arith}
 use native.Mathlib.Decide.{decLt}
-use native.Mathlib.Nat.{mul-le-mul, mul-le-mul-right}
+use native.Mathlib.Nat.{mul-le-mul, mul-le-mul-right, mod-lt, div-add-mod'}
 use borrow.Author.Tests.{lt-ltb, le-ltb}
 use lib.Dec.{T, ltb→lt, lt→ltb}
 use Rattle.answers.specs.Refusals.{NODES, number}
 use Rattle.answers.specs.Answers.{Told, Told.done, Told.refused, told, Outcome, outcome, check}
-use Rattle.answers.specs.Host.{hostNumber, narrowUnit, wideUnit, hosted, heard}
+use Rattle.answers.specs.Host.{hostNumber, narrowUnit, wideUnit, hosted, refusedBy, heard}
 use Rattle.answers.specs.Promised.{Numbered, Placed, Hearable}
 use Rattle.answers.specs.Inside.Fits.{fitsHost, largestUnit}
 use Rattle.answers.specs.declared.Refusal.{Refusal}
@@ -67,26 +67,28 @@ module _ (unit : ℕ) where
 
 -- ---- What a host hears.
 
+-- whatever the unit, a place below it and the refusal are found again
+again : (unit refusal place : ℕ) → place < unit → refusedBy unit (refusal * unit + place) ≡ refused refusal place
+again unit refusal place h =
+    let number = refusal * unit + place in
+    let parts = apart unit (number / unit) refusal (number % unit) place (mod-lt number (omega arith)) h (div-add-mod' number unit) in
+    ap₂ (λ (m n : ℕ). refused m n) (parts .0) (parts .1)
+
 pub wide-heard : (t : Told) → Hearable wideUnit t → heard (hostNumber wideUnit t) ≡ t
 wide-heard (done n) w = rw (lt-ltb n narrowUnit w)
 wide-heard (refused refusal place) w =
     let number = refusal * wideUnit + place in
-    let h = w .below in
-    let refusal-is : number / wideUnit ≡ refusal = omega arith in
-    let place-is : number % wideUnit ≡ place = omega arith in
     let above : wideUnit ≤ number = omega (arith, w .numbered .some) in
-    rw (le-ltb number narrowUnit (omega arith), le-ltb number wideUnit above, refusal-is, place-is)
+    rw (le-ltb number narrowUnit (omega arith), le-ltb number wideUnit above) (again wideUnit refusal place (w .below))
 
 pub narrow-heard : (t : Told) → Hearable narrowUnit t → heard (hostNumber narrowUnit t) ≡ t
 narrow-heard (done n) w = rw (lt-ltb n narrowUnit w)
 narrow-heard (refused refusal place) w =
     let number = refusal * narrowUnit + place in
     let h = w .below in
-    let refusal-is : number / narrowUnit ≡ refusal = omega arith in
-    let place-is : number % narrowUnit ≡ place = omega arith in
     let above : narrowUnit ≤ number = omega (arith, w .numbered .some) in
     let under : number < wideUnit = omega (arith, w .numbered .most) in
-    rw (le-ltb number narrowUnit above, lt-ltb number wideUnit under, refusal-is, place-is)
+    rw (le-ltb number narrowUnit above, lt-ltb number wideUnit under) (again narrowUnit refusal place h)
 
 -- the number, and the areas, tell the whole outcome
 module _ {Areas : Type 0} (unit : ℕ) (o : Outcome Areas) (told-so : heard (hostNumber unit (o .answer)) ≡ o .answer) where
