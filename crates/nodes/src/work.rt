@@ -1,7 +1,7 @@
 // The sum of a node, formed of the sums of earlier nodes, in the work areas. Whatever the node is, its terms are written through the part of both areas that starts at 128 × its index and is lent
 // on for them. While a part is lent to be written, no other part of that area can be read. So the operands of products and powers are copied to arrays, and what they give is formed in the lent part;
-// but a sum, and a product with a node of one term, is formed in arrays, of operands that are read where they stand, and is then put into the lent part: most nodes are of these two kinds, and to
-// copy their operands would take longer than to form them.
+// but a sum, and a product with a node of one term, is formed in arrays, of operands that are read where they stand, and is then put into the lent part: most nodes are of these two kinds, and
+// with their operands copied the whole was measured slower.
 use crate::Kind;
 use algebra::MOST_TERMS;
 use answers::areas;
