@@ -1,4 +1,5 @@
-# What the statements of theorems name: reads lines 'FILE THEOREM', and prints a line for each name from inside the library that a statement comes to.
+# What the statements of theorems name: reads lines 'FILE THEOREM', and prints a line for each name from inside the library that a statement comes to. With -v crates='sums|pair' these
+# crates are inside.
 #
 # A statement is what stands between a theorem's name and its proof, with the parameters of the modules around it. A record, a data type or an abbreviation that it names, and that
 # stands in proofs/, belongs to it with all that it says; of another definition or theorem that it names, the statement does. What stands in specs/ is looked at by itself
@@ -7,7 +8,7 @@
 function indent(line) { match(line, /^ */); return RLENGTH }
 
 # Inside are the folders specs/Inside, and the crates that no operation's definition goes by.
-function inside(path) { return path ~ /\.Inside\./ || path ~ /\.Inside$/ || path ~ /^Rattle·(sums|weights|pair|replay)(\.|·)/ }
+function inside(path) { return path ~ /\.Inside\./ || path ~ /\.Inside$/ || crates != "" && path ~ ("^Rattle·(" crates ")(\\.|·)") }
 
 # Rattle.text.proofs.Words, and from another crate Rattle.text.proofs.Words: crates/text/proofs/Words.antt
 function file_of(path) {

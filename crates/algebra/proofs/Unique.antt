@@ -49,56 +49,74 @@ answer After After h = refl
 
 -- ---- The functions.
 
+-- Refused when tried: returns 127; returns 129.
 pub most-terms-one : One most-terms.Learnt
 most-terms-one k a r r' e e' h h' = same h h'
 
+-- Refused when tried: returns 2^61; returns 2^63.
 pub largest-weight-one : One largest-weight.Learnt
 largest-weight-one k a r r' e e' h h' = same h h'
 
+-- Refused when tried: returns 63; returns 128.
 pub most-nodes-one : One most-nodes.Learnt
 most-nodes-one k a r r' e e' h h' = same h h'
 
+-- Refused when tried: returns 8,191; returns 128.
 pub work-places-one : One work-places.Learnt
 work-places-one k a r r' e e' h h' = same h h'
 
+-- Refused when tried: returns 9; returns the largest degree.
 pub variables-one : One variables.Learnt
 variables-one k a r r' e e' h h' = same h h'
 
+-- Refused when tried: returns 61; returns the number of variables.
 pub largest-degree-one : One largest-degree.Learnt
 largest-degree-one k a r r' e e' h h' = same h h'
 
+-- Refused when tried: modulo 65,536; the bytes of one lot twice.
 pub total-one : One total.Learnt
 total-one k a r r' e e' h h' = same h h'
 
+-- Refused when tried: the word of h; the word of a.
 pub empty-one : One empty.Learnt
 empty-one k a r r' e e' h h' = pattern h h'
 
+-- Refused when tried: self twice; the other alone.
 pub product-one : One product.Learnt
 product-one k a r r' e e' h h' = pattern h h'
 
+-- Refused when tried: the bits of both; the bits that differ.
 pub either-one : One either.Learnt
 either-one k a r r' e e' h h' = pattern h h'
 
+-- Refused when tried: modulo 254.
 pub degree-one : One degree.Learnt
 degree-one k a r r' e e' h h' = same h h'
 
+-- Refused when tried: modulo 256; the quotient by 254.
 pub rank-one : One rank.Learnt
 rank-one k a r r' e e' h h' = same h h'
 
+-- Refused when tried: 256 times the quotient; the degree from a shift by 8 bits.
 pub of-rank-one : One of-rank.Learnt
 of-rank-one k a r r' e e' h h' = pattern h h'
 
+-- Refused when tried: the lower degree first.
 pub compare-one : One compare.Learnt
 compare-one k a r r' e e' h h' = answer r r' (same h h')
 
+-- Refused when tried: the exponent of a; seven bits of the byte.
 pub exponent-one : One exponent.Learnt
 exponent-one k a r r' e e' h h' = same h h'
 
+-- Refused when tried: the power 1; a power of a.
 pub power-one : One power.Learnt
 power-one k a r r' e e' h h' = pattern h h'
 
+-- Refused when tried: the power of a is taken for that of v; it is taken away from a.
 pub without-one : One without.Learnt
 without-one k a r r' e e' h h' = pattern h h'
 
+-- Refused when tried: "none" at power 1.
 pub slope-step-one : One slope-step.Learnt
 slope-step-one k a r r' e e' h h' = step h h'

@@ -102,6 +102,7 @@ impl Pattern {
     }
 
     // Exponents add up in their bytes.
+    // Asks that both patterns are valid, and their degrees together at most 60.
     pub fn product(self, other: Pattern) -> Pattern
         requires { ⌜ Valid (self .0) ⌝ }
         requires { ⌜ Valid (other .0) ⌝ }
@@ -120,6 +121,7 @@ impl Pattern {
 
     // 256 leaves 1 when divided by 255, and so does each of its powers: the remainder is the sum of
     // the bytes.
+    // Asks that the pattern is valid.
     pub fn degree(self) -> u64
         requires { ⌜ Valid (self .0) ⌝ }
         ensures { λ r. ⌜ r ≡ degree (exponents (self .0)) ⌝ }
@@ -138,6 +140,7 @@ impl Pattern {
     }
 
     // The place in the term order as one number: the degree, and below it the quotient by 255. At equal remainders the larger word has the larger quotient. Ranks add up where words do.
+    // Asks that the pattern is valid.
     pub fn rank(self) -> u64
         requires { ⌜ Valid (self .0) ⌝ }
         ensures { λ r. ⌜ r ≡ rankOf (self .0) ⌝ }
@@ -154,6 +157,7 @@ impl Pattern {
 
     // The larger degree stands first. At equal degrees it is the larger word: the first byte in which
     // the two differ decides.
+    // Asks that both patterns are valid.
     pub fn compare(self, other: Pattern) -> Standing
         requires { ⌜ Valid (self .0) ⌝ }
         requires { ⌜ Valid (other .0) ⌝ }
@@ -179,6 +183,7 @@ impl Pattern {
     }
 
     // The power of variable v. It asks for no valid pattern: any word has eight bytes.
+    // Asks that the variable's number is below 8.
     pub fn exponent(self, v: u64) -> u64
         requires { ⌜ v < variables ⌝ }
         ensures { λ r. ⌜ r ≡ exponent v (exponents (self .0)) ⌝ }
@@ -187,6 +192,7 @@ impl Pattern {
     }
 
     // The power e of variable v alone.
+    // Asks that the variable's number is below 8, and the exponent at most 60.
     pub fn power(v: u64, e: u64) -> Pattern
         requires { ⌜ v < variables ⌝ }
         requires { ⌜ e ≤ largestDegree ⌝ }
@@ -196,6 +202,7 @@ impl Pattern {
     }
 
     // The pattern with no power of v.
+    // Asks that the pattern is valid, and the variable's number below 8.
     pub fn without(self, v: u64) -> Pattern
         requires { ⌜ Valid (self .0) ⌝ }
         requires { ⌜ v < variables ⌝ }
@@ -206,6 +213,7 @@ impl Pattern {
     }
 
     // A pattern without v is its own step: the power 0 says that its term goes.
+    // Asks that the pattern is valid, and the variable's number below 8.
     pub fn slope_step(self, v: u64) -> Step
         requires { ⌜ Valid (self .0) ⌝ }
         requires { ⌜ v < variables ⌝ }

@@ -63,20 +63,26 @@ outcome-one a b h = (told-one a b (ap (λ (o : Outcome _). o .answer) h), ap (λ
 
 -- ---- The functions.
 
+-- Refused when tried: ROOM is 0.
 pub number-one : One refusal-number.Learnt
 number-one k a r r' e e' h h' = same h h'
 
+-- Refused when tried: the unit in the place's stead; the unit for every number that is returned.
 pub for-host-one : One for-host.Learnt
 for-host-one k a r r' e e' h h' = same h h'
 
+-- Refused when tried: from place 1 on; every other place.
 pub copy-words-one : OneLent copy-words.Learnt (λ k e. now (e .0))
 copy-words-one k a r r' e e' h h' = (refl, same h h')
 
+-- Refused when tried: from place 1 on; every other place.
 pub copy-coefficients-one : OneLent copy-coefficients.Learnt (λ k e. now (e .0))
 copy-coefficients-one k a r r' e e' h h' = (refl, same h h')
 
+-- Refused when tried: writes 1; from place 1 on.
 pub clear-words-one : OneLent clear-words.Learnt (λ k e. now (e .0))
 clear-words-one k a r r' e e' h h' = (refl, same h h')
 
+-- Refused when tried: writes 1; from place 1 on.
 pub clear-coefficients-one : OneLent clear-coefficients.Learnt (λ k e. now (e .0))
 clear-coefficients-one k a r r' e e' h h' = (refl, same h h')

@@ -1,3 +1,5 @@
+-- What the definitions say: the thirteen refusals; answers and outcomes; checks one after the other; the number for C, and how it is taken apart;
+-- areas that are written; how 'one outcome', what a host can hear and a table of cases are stated
 pub mod Refusals
 pub mod Answers
 pub mod Judge

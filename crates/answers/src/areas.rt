@@ -5,6 +5,7 @@ ghost use lib.IntN.{pos};
 ghost use lib.ListN.{length, take};
 ghost use Rattle.answers.specs.Areas.{written, cleared};
 
+// Asks that the count is at most both lengths.
 pub fn copy_words(area: &mut [u64], values: &[u64], count: usize)
     requires { ⌜ count ≤ length (now area) ⌝ }
     requires { ⌜ count ≤ length (now values) ⌝ }
@@ -17,6 +18,7 @@ pub fn copy_words(area: &mut [u64], values: &[u64], count: usize)
     }
 }
 
+// Asks that the count is at most both lengths.
 pub fn copy_coefficients(area: &mut [i64], values: &[i64], count: usize)
     requires { ⌜ count ≤ length (now area) ⌝ }
     requires { ⌜ count ≤ length (now values) ⌝ }
@@ -31,6 +33,7 @@ pub fn copy_coefficients(area: &mut [i64], values: &[i64], count: usize)
     }
 }
 
+// Asks that the count is at most the area's length.
 pub fn clear_words(area: &mut [u64], count: usize)
     requires { ⌜ count ≤ length (now area) ⌝ }
     ensures { λ r. ⌜ now (area .exit) ≡ cleared 0 count (now (area .entry)) ⌝ }
@@ -42,6 +45,7 @@ pub fn clear_words(area: &mut [u64], count: usize)
     }
 }
 
+// Asks that the count is at most the area's length.
 pub fn clear_coefficients(area: &mut [i64], count: usize)
     requires { ⌜ count ≤ length (now area) ⌝ }
     ensures { λ r. ⌜ now (area .exit) ≡ cleared (pos 0) count (now (area .entry)) ⌝ }

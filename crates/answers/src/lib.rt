@@ -59,6 +59,7 @@ impl Refusal {
 
 impl Answer {
     // The answer as one number for a C host: `unit` is what 1 of a refusal's number counts.
+    // Asks that the unit is at most 2^32, and the number that is returned, or the place, is below it.
     pub fn for_host(self, unit: u64) -> u64
         requires { ⌜ unit ≤ largestUnit ⌝ }
         requires { ⌜ T (fitsHost unit (told self)) ⌝ }

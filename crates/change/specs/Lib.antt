@@ -1,3 +1,4 @@
+-- What the definitions say: the two operations, lists, what a substitution means; when each is done or refuses
 pub mod Slope
 pub mod Pairs
 pub mod Substitute

@@ -19,24 +19,31 @@ use Rattle.host.proofs.reeveboom_estimate.Reads as estimate
 number-one : {A : Type 0} {n n' : ℕ} {x x' : A} → _≡_ {A = ℕ × A} (n, x) (n', x') → (n ≡ n') × (x ≡ x')
 number-one {A} e = (ap (λ (p : ℕ × A). p .0) e, ap (λ (p : ℕ × A). p .1) e)
 
+-- Refused when tried: no byte of the text is read.
 pub reeveboom-text-one : OneLent text.Learnt (λ k e. now (e .1 .0))
 reeveboom-text-one k a r r' e e' h h' = number-one (same h h')
 
 -- the result area is the second argument here, and the work areas come after it
+-- Refused when tried: a refusal counts 65,536; no number of the table is read.
 pub reeveboom-simplify-one : OneLent simplify.Learnt {L = WorkAreas} (λ k e. (now (e .1 .1 .0), now (e .1 .1 .1 .0), now (e .1 .0)))
 reeveboom-simplify-one k a r r' e e' h h' = number-one (same h h')
 
+-- Refused when tried: a refusal counts 65,536; no byte of the sum is read.
 pub reeveboom-unpack-one : OneLent unpack.Learnt {L = List ℕ × List ℤ} (λ k e. (now (e .1 .0), now (e .1 .1 .0)))
 reeveboom-unpack-one k a r r' e e' h h' = number-one (same h h')
 
+-- Refused when tried: a refusal counts 65,536; the count 1.
 pub reeveboom-pack-one : OneLent pack.Learnt (λ k e. now (e .1 .1 .1 .0))
 reeveboom-pack-one k a r r' e e' h h' = number-one (same h h')
 
+-- Refused when tried: a refusal counts 65,536; always by a.
 pub reeveboom-slope-one : OneLent slope.Learnt (λ k e. now (e .1 .1 .0))
 reeveboom-slope-one k a r r' e e' h h' = number-one (same h h')
 
+-- Refused when tried: sum and list exchanged; the sum for the list too.
 pub reeveboom-substitute-one : OneLent substitute.Learnt {L = WorkAreas} (λ k e. (now (e .1 .1 .1 .0), now (e .1 .1 .1 .1 .0), now (e .1 .1 .0)))
 reeveboom-substitute-one k a r r' e e' h h' = number-one (same h h')
 
+-- Refused when tried: a refusal counts 2^32.
 pub reeveboom-estimate-one : OneLent estimate.Learnt (λ k e. now (e .1 .1 .1 .0))
 reeveboom-estimate-one k a r r' e e' h h' = number-one (same h h')

@@ -14,6 +14,7 @@ ghost use Rattle.listing.specs.Decimal.{decimal};
 ghost use Rattle.listing.specs.Lines.{exponentsLine, termLine, sumLines, refusalLine};
 
 // The bytes at a place of the area, as they are.
+// Asks that the bytes fit at their place.
 pub fn write_bytes(area: &mut [u8], at: usize, bytes: &[u8]) -> usize
     requires { ⌜ at + length (now bytes) ≤ length (now area) ⌝ }
     ensures { λ r. ⌜ r ≡ at + length (now (bytes .entry)) ⌝ }

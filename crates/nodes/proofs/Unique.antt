@@ -85,12 +85,15 @@ node h h' =
 
 -- ---- The functions.
 
+-- Refused when tried: sums and products exchanged; an integer's second number is 1.
 pub read-node-one : One read-node.Learnt
 read-node-one k a r r' e e' h h' = found-one _ r r' (same h h')
 
+-- Refused when tried: a product's degree is twice that of its first operand; a variable weighs 0.
 pub make-node-one : One make-node.Learnt
 make-node-one k a r r' e e' h h' = node h h'
 
+-- Refused when tried: the first operand of a sum twice; the power 1.
 pub form-one : OneLent form.Learnt {L = List ℕ × List ℤ} (λ k e. (now (e .1 .1 .1 .0), now (e .1 .1 .1 .1 .0)))
 form-one k a r r' e e' h h' =
     let all = at-one h h' in

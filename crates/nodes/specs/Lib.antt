@@ -1,3 +1,4 @@
+-- What the definitions say: nodes and their three numbers; formal degree and weight, spread
 pub mod Node
 pub mod Formal
 pub mod Inside

@@ -135,6 +135,7 @@ fn formal_weight(kind: Kind, weights: &[u64]) -> u64
 }
 
 // The node of a kind, with its formal degree and weight from those of the nodes before.
+// Asks that the node's children stand before it, and their degrees and weights are within the limits.
 pub fn make_node(kind: Kind, degrees: &[u64], weights: &[u64]) -> Node
     requires { ⌜ T (isNode (length (now degrees)) (kindOf kind)) ⌝ }
     requires { ⌜ length (now degrees) ≡ length (now weights) ⌝ }

@@ -35,14 +35,17 @@ item-one r r' h = sym (answer-of r) ∙ ap answerOf h ∙ answer-of r'
 pub read-number-one : One read-number.Learnt
 read-number-one k a r r' e e' h h' = item-one r r' (same h h')
 
+-- Refused when tried: six bits of a group.
 pub write-number-one : OneLent write-number.Learnt (λ k e. now (e .0))
 write-number-one k a r r' e e' h h' = (same (h .0) (h' .0), same (h .1) (h' .1))
 
 pub code-one : One code.Learnt
 code-one k a r r' e e' h h' = same h h'
 
+-- Refused when tried: one less; the odd codes for the numbers from 0 up.
 pub decode-one : One decode.Learnt
 decode-one k a r r' e e' h h' = same h h'
 
+-- Refused when tried: one less for a negative number; 0 taken for negative.
 pub absolute-one : One absolute.Learnt
 absolute-one k a r r' e e' h h' = same h h'

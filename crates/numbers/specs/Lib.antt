@@ -1,3 +1,4 @@
+-- What the definitions say: what a reader answers; numbers in groups; codes
 pub mod Item
 pub mod Number
 pub mod Code

@@ -54,6 +54,7 @@ pub fn read_number(bytes: &[u8], at: usize) -> Read
 }
 
 // Writes a number at a place of an area, and answers the place after it.
+// Asks that the number's bytes fit at their place.
 pub fn write_number(area: &mut [u8], at: usize, n: u64) -> usize
     requires { ⌜ at + length (numberBytes n) ≤ length (now area) ⌝ }
     ensures { λ r. ⌜ (r ≡ at + length (numberBytes n)) × (now (area .exit) ≡ sets (now (area .entry)) at (numberBytes n)) ⌝ }

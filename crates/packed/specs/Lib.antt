@@ -1,3 +1,5 @@
+-- What the definitions say: packed bytes, how they are read, what an operation leaves in its areas, the two operations, and when each is done or
+-- refuses
 pub mod Packed
 pub mod Judge
 pub mod ReadSum

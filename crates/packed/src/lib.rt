@@ -49,6 +49,7 @@ pub fn read_count(bytes: &[u8], at: usize) -> Read
 }
 
 // A packed sum at a place of the bytes, for lists of sums. The value is the number of terms; on a refusal the areas stay.
+// Asks that both areas have 128 places.
 pub fn read_sum(bytes: &[u8], at: usize, patterns: &mut [u64], coefficients: &mut [i64]) -> Read
     requires { ⌜ mostTerms ≤ length (now patterns) ⌝ }
     requires { ⌜ mostTerms ≤ length (now coefficients) ⌝ }
@@ -82,6 +83,7 @@ pub fn refused(item: Read) -> Answer
 }
 
 // The `count` terms after a sum's count, which end with the bytes, into the first places of two arrays. On a refusal these places are cleared.
+// Asks that the count is at most both lengths.
 pub fn take_whole(
     bytes: &[u8],
     at: usize,

@@ -24,6 +24,7 @@ fn write_exponents(area: &mut [u8], at: usize, pattern: Pattern) -> usize
 }
 
 // Writes a packed sum at a place of an area, and answers the place after it. Its patterns are within the limits.
+// Asks that the count is at most both lengths, the words are valid, and the sum's bytes fit at their place.
 pub fn write_sum(
     area: &mut [u8],
     at: usize,

@@ -13,8 +13,10 @@ use Rattle.pair.proofs.putting.put.Reads as put
 measured : {m n : Measured} {d w p : ℕ} → (m .degree ≡ d) × (m .weight ≡ w) × (m .power ≡ p) → (n .degree ≡ d) × (n .weight ≡ w) × (n .power ≡ p) → m ≡ n
 measured h h' = λ j. record { degree = same (h .0) (h' .0) j; weight = same (h .1) (h' .1) j; power = same (h .2) (h' .2) j }
 
+-- Refused when tried: the weight of the sum that is put is not raised; the power times itself, and not the degree of the sum that is put.
 pub measure-one : One measure.Learnt
 measure-one k a r r' e e' h h' = measured h h'
 
+-- Refused when tried: the largest power is not formed; the rows of the terms without the variable at every power.
 pub put-one : OneLent put.Learnt {L = TwoAreas} (λ k e. (now (e .1 .1 .1 .1 .1 .1 .0), now (e .1 .1 .1 .1 .1 .1 .1 .0)))
 put-one k a r r' e e' h h' = told-one r r' (same h h')

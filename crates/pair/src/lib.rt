@@ -45,6 +45,7 @@ fn size_of(sp: &[u64], sc: &[i64]) -> Size
 
 // Term by term: the other exponents added and the power of v times the degree of the sum that is put; the absolute coefficient times the weight of that
 // sum, raised.
+// Asks that the variable's number is below 8, and both sums are held sums.
 pub fn measure(v: u64, sp: &[u64], sc: &[i64], fp: &[u64], fc: &[i64]) -> Measured
     requires { ⌜ CanPut v (now sp) (now sc) (now fp) (now fc) ⌝ }
     ensures { λ r. ⌜ (r .degree ≡ pairDegree v (terms (now (sp .entry)) (now (sc .entry))) (terms (now (fp .entry)) (now (fc .entry)))) × (r .weight ≡ capped (pairWeight v (terms (now (sp .entry)) (now (sc .entry))) (terms (now (fp .entry)) (now (fc .entry))))) × (r .power ≡ largestPower v (terms (now (fp .entry)) (now (fc .entry)))) ⌝ }

@@ -166,6 +166,8 @@ fn raise(
 }
 
 // `largest` is the largest power of v. No power above it is formed, since none above it is judged.
+// Asks that the variable's number is below 8, both sums are held sums, degree and weight have passed, the largest power is that of the variable,
+// and both areas have 128 places.
 pub fn put(
     v: u64,
     largest: u64,

@@ -1,3 +1,4 @@
+-- Need not be believed: the crate is there to compare with.
 pub mod Limits
 pub mod Hex
 pub mod Fields

@@ -43,29 +43,38 @@ told-one r r' h = (formed-one r r' (ap (λ x. x .0) h), ap (λ x. (x .1, x .2)) 
 
 -- ---- The functions.
 
+-- Refused when tried: 1 has no term; zero has a term.
 pub integer-one : OneLent integer.Learnt {L = TwoAreas} (λ k e. (now (e .1 .0), now (e .1 .1 .0)))
 integer-one k a r r' e e' h h' = told-one r r' (same h h')
 
+-- Refused when tried: its square; twice the variable.
 pub variable-one : OneLent variable.Learnt {L = TwoAreas} (λ k e. (now (e .1 .0), now (e .1 .1 .0)))
 variable-one k a r r' e e' h h' = told-one r r' (same h h')
 
+-- Refused when tried: each pattern counts twice; 256 patterns are taken.
 pub sum-one : OneLent sum.Learnt {L = TwoAreas} (λ k e. (now (e .1 .1 .1 .1 .0), now (e .1 .1 .1 .1 .1 .0)))
 sum-one k a r r' e e' h h' = told-one r r' (same h h')
 
+-- Refused when tried: the term's coefficient squared; a term with coefficient 1 goes, and one with 0 stays.
 pub multiply-by-term-one : OneLent multiply-by-term.Learnt {L = TwoAreas} (λ k e. (now (e .1 .1 .1 .1 .0), now (e .1 .1 .1 .1 .1 .0)))
 multiply-by-term-one k a r r' e e' h h' = told-one r r' (same h h')
 
+-- Refused when tried: the square of one operand.
 pub product-one : OneLent product.Learnt {L = TwoAreas} (λ k e. (now (e .1 .1 .1 .1 .0), now (e .1 .1 .1 .1 .1 .0)))
 product-one k a r r' e e' h h' = told-one r r' (same h h')
 
+-- Refused when tried: one step more; exponent 0 gives 0; a cube is formed as a square.
 pub power-one : OneLent power.Learnt {L = TwoAreas} (λ k e. (now (e .1 .1 .1 .0), now (e .1 .1 .1 .1 .0)))
 power-one k a r r' e e' h h' = told-one r r' (same h h')
 
+-- Refused when tried: always the rank of the first word; every rank at place 0.
 pub rank-words-one : OneLent rank-words.Learnt {L = List ℕ} (λ k e. now (e .1 .0))
 rank-words-one k a r r' e e' h h' = (refl, same h h')
 
+-- Refused when tried: answers the old number of terms; the words after the sum are not cleared.
 pub add-product-one : OneLent add-product.Learnt {L = TwoAreas} (λ k e. (now (e .0), now (e .1 .0)))
 add-product-one k a r r' e e' h h' = told-one r r' (same h h')
 
+-- Refused when tried: counts from 1; drops coefficients 1.
 pub finish-one : OneLent finish.Learnt {L = TwoAreas} (λ k e. (now (e .1 .1 .0), now (e .1 .1 .1 .0)))
 finish-one k a r r' e e' h h' = told-one r r' (same h h')

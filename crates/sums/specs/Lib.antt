@@ -1,3 +1,4 @@
+-- Need not be believed: the crate serves only other crates.
 pub mod Held
 pub mod Formed
 pub mod Asked

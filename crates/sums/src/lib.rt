@@ -40,6 +40,7 @@ const FEW_PLACES: usize = FEW_TERMS * FEW_TERMS;
 // ---- Sums of one term at most.
 
 // An integer. Zero has no terms.
+// Asks that both areas have 128 places.
 pub fn integer(n: i64, patterns: &mut [u64], coefficients: &mut [i64]) -> Formed
     requires { ⌜ Room (now patterns) (now coefficients) ⌝ }
     ensures { λ r. ⌜ (formedOf r, now (patterns .exit), now (coefficients .exit)) ≡ formedInto (formed (integer variables n)) (now (patterns .entry)) (now (coefficients .entry)) ⌝ }
@@ -53,6 +54,7 @@ pub fn integer(n: i64, patterns: &mut [u64], coefficients: &mut [i64]) -> Formed
 }
 
 // A variable alone.
+// Asks that the variable's number is below 8, and both areas have 128 places.
 pub fn variable(v: u64, patterns: &mut [u64], coefficients: &mut [i64]) -> Formed
     requires { ⌜ v < variables ⌝ }
     requires { ⌜ Room (now patterns) (now coefficients) ⌝ }
@@ -67,6 +69,8 @@ pub fn variable(v: u64, patterns: &mut [u64], coefficients: &mut [i64]) -> Forme
 // ---- Two sums added.
 
 // The sum. Nothing is written where the spread is above 128: so it is judged before the terms are merged.
+// Asks that both operands are held sums, their weights together are at most 2^62, and both areas have room for as many terms as both have
+// together, or for 128.
 pub fn sum(
     sp: &[u64],
     sc: &[i64],
@@ -89,6 +93,8 @@ pub fn sum(
 // ---- Products and powers. The running sum stands in arrays of its own: the areas are written when nothing can be refused any more.
 
 // The product by one term needs no running sum: patterns that differ still do, and stay in order.
+// Asks that the word is valid, the operand is held, degree and weight of the product are within the limits, and both areas have room for as many
+// terms as the operand has, or for 128.
 pub fn multiply_by_term(
     word: u64,
     c: i64,
@@ -207,6 +213,7 @@ fn multiply(
 }
 
 // The product, with a row for each term of the shorter operand. It is also one step of a power.
+// Asks that both operands are held, the degree and weight of the product are within the limits, and both areas have 128 places.
 pub fn product(
     sp: &[u64],
     sc: &[i64],
@@ -278,6 +285,7 @@ fn repeated(
 }
 
 // A power with exponent 0 is 1. One of a base of one or two terms needs no products, and a square is one product; any other is multiplied by the base again and again.
+// Asks that the base is held and has no coefficient 0, the degree and weight of the power are within the limits, and both areas have 128 places.
 pub fn power(
     sp: &[u64],
     sc: &[i64],

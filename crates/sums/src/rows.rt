@@ -26,6 +26,7 @@ ghost use Rattle.sums.specs.Formed.{formedOf, Formed.formed, withRow, fo
 ghost use Rattle.sums.specs.Rows.{CanMerge, joined, Gapped, closed, Stands, CanAdd, Added, rankedInto};
 
 // The ranks of words.
+// Asks that the words are valid, and there is room for their ranks.
 pub fn rank_words(words: &[u64], ranks: &mut [u64])
     requires { ⌜ EachValid (now words) ⌝ }
     requires { ⌜ length (now words) ≤ length (now ranks) ⌝ }
@@ -182,6 +183,7 @@ pub(crate) fn add_pairs(
 }
 
 // The same for other crates: all places after the sum are cleared, and without a sum all places.
+// Asks that running sum and operands are held, degree and weight of the result are within the limits, and there is room for one row more.
 pub fn add_product(
     ranks: &mut [u64],
     coefficients: &mut [i64],
@@ -210,6 +212,7 @@ pub fn add_product(
 }
 
 // The operation is complete: the terms of a running sum that have not cancelled are written to two areas, by words again.
+// Asks that the running sum is held, and both areas have 128 places.
 pub fn finish(sr: &[u64], sc: &[i64], patterns: &mut [u64], coefficients: &mut [i64]) -> Formed
     requires { ⌜ Held (wordsAt (now sr)) (now sc) ⌝ }
     requires { ⌜ Room (now patterns) (now coefficients) ⌝ }

@@ -5,5 +5,6 @@ use Rattle.answers.specs.Promised.{OneLent}
 use Rattle.answers.proofs.Unique.{outcome-one}
 use Rattle.text.proofs.read_formula.Reads as read-formula
 
+-- Refused when tried: i is a letter; 64 nodes are refused; 1,024 bytes are refused.
 pub read-formula-one : OneLent read-formula.Learnt (λ k e. now (e .1 .0))
 read-formula-one k a r r' e e' h h' = outcome-one r r' (same h h')
