@@ -61,7 +61,7 @@ module _ {w : ℕ} {c : ℤ} {tp : List ℕ} {tc : List ℤ} (g : HasTerm w c tp
         map-at (λ (t : Term). word (t .pattern)) (rowOf w c tp tc) k none 0 inside ∙ ap (λ (t : Term). word (t .pattern)) next-is
 
     pub value-fits : SFits w64 (c *ℤ getD tc k (pos 0))
-    value-fits = product-fits (g .factor) k h c (g .light)
+    value-fits = product-fits (g .factor) k h c (omega (arith, g .light))
 
     pub can-multiply : (Valid w) × ((Valid (getD tp k 0)) × (degree (exponents w) + degree (exponents (getD tp k 0)) ≤ largestDegree))
     can-multiply = (g .valid, (each-valid (g .factor) k h, low-enough (g .factor) k h w (g .low)))

@@ -1,14 +1,14 @@
 -- A row, term by term: its length, its terms, and that each can be formed.
 use mathlib.Core.Path.{_≡_, refl, _∙_, ap}
 use mathlib.Core.List.{List, [], _∷_, map}
-use Prim.Native.Nat.{ℕ, _+_, _*_, _≤_, _<_}
+use Prim.Native.Nat.{ℕ, _+_, _*_, _^_, _≤_, _<_}
 use native.Mathlib.Omega.{arith}
 use native.Mathlib.Nat.{mul-le-mul-left}
 use lib.IntN.{ℤ, pos, natAbs, _*ℤ_}
 use lib.ListN.{length, getD, length-map}
 use mir.Syntax.{w64}
 use mir.Val.{SFits}
-use Rattle.algebra.specs.Limits.{largestDegree, largestWeight}
+use Rattle.algebra.specs.Limits.{largestDegree}
 use Rattle.algebra.specs.Pattern.{times, degree}
 use Rattle.algebra.specs.Sum.{Term, term, Sum, degreeOf, weight}
 use Rattle.algebra.specs.Arithmetic.{timesTerm, row}
@@ -42,5 +42,5 @@ module _ {ws : List ℕ} {cs : List ℤ} (held : Held ws cs) (k : ℕ) (h : k < 
   pub product-size : (c : ℤ) → natAbs (c *ℤ getD cs k (pos 0)) ≤ natAbs c * weight (terms ws cs)
   product-size c = omega (arith, abs-mul c (getD cs k (pos 0)), mul-le-mul-left (natAbs c) (size-at held k h))
 
-  pub product-fits : (c : ℤ) → natAbs c * weight (terms ws cs) ≤ largestWeight → SFits w64 (c *ℤ getD cs k (pos 0))
+  pub product-fits : (c : ℤ) → natAbs c * weight (terms ws cs) < 2 ^ 63 → SFits w64 (c *ℤ getD cs k (pos 0))
   product-fits c light = fits-abs (c *ℤ getD cs k (pos 0)) (omega (arith, product-size c))

@@ -208,7 +208,7 @@ module _ {ws₀ : List ℕ} {cs₀ : List ℤ} {n : ℕ} {sp : List ℕ} {sc : L
       factor = p .can .second;
       valid = each-valid (p .can .first) k h;
       low = omega (arith, degree-at (p .can .first) k h, p .can .low);
-      light = rw before (row-light (addable (p .can)) k u here);
+      light = rw before (omega (arith, row-light (addable (p .can)) k u here));
       words-room = omega (arith, room (length ws₀) (p .can .words-room), p .same-words);
       coefficients-room = omega (arith, room (length cs₀) (p .can .coefficients-room), p .same-coefficients);
     }

@@ -2,7 +2,7 @@
 use mathlib.Core.Path.{_≡_}
 use mathlib.Core.Bool.{_||_}
 use mathlib.Core.List.{List, _++_, map}
-use Prim.Native.Nat.{ℕ, _+_, _*_, _-_, _≤_}
+use Prim.Native.Nat.{ℕ, _+_, _*_, _-_, _^_, _≤_, _<_}
 use lib.Dec.{T, leb}
 use lib.IntN.{ℤ, natAbs}
 use lib.ListN.{length, take, drop}
@@ -26,7 +26,8 @@ pub record CanMerge (ws : List ℕ) (cs : List ℤ) (n w : ℕ) (c : ℤ) (tp : 
   pub factor : Held tp tc
   pub valid : Valid w
   pub low : degree (exponents w) + degreeOf (terms tp tc) ≤ largestDegree
-  pub light : natAbs c * weight (terms tp tc) + weight (firstTerms n ws cs) ≤ largestWeight
+  -- every coefficient fits 64 bits, whatever adds up; the row and the running sum need not be accepted together
+  pub light : natAbs c * weight (terms tp tc) + weight (firstTerms n ws cs) < 2 ^ 63
   pub words-room : n + length tp ≤ length ws
   pub coefficients-room : n + length tp ≤ length cs
 
