@@ -1,34 +1,24 @@
--- What the loops of `size_of` and `measure` keep: degree, weight and largest power of the terms so far.
+-- What the loop of `measure` keeps: degree, weight and largest power of the terms so far.
 use mathlib.Core.Path.{_≡_, refl, sym, _∙_, ap, ap₂}
 use mathlib.Core.List.{List, [], _∷_, _++_}
 use Prim.Native.Nat.{ℕ, _+_, _*_, _-_, _^_, max, _≤_, _<_}
 use native.Mathlib.Omega.{arith}
 use native.Mathlib.Nat.{mul-le-mul-left, mul-le-mul-right}
 use lib.IntN.{ℤ, pos, natAbs}
-use lib.ListN.{length, getD, take, drop, take-append-drop}
+use lib.ListN.{length, getD, take}
 use lib.Seq.{take-all}
-use Rattle.algebra.specs.Limits.{largestDegree, largestWeight}
+use Rattle.algebra.specs.Limits.{largestDegree}
 use Rattle.algebra.specs.Pattern.{Pattern, degree, exponent, without}
 use Rattle.algebra.specs.Sum.{Term, term, Sum, degreeOf, weight}
 use Rattle.algebra.specs.Substitute.{pairDegree, pairWeight, largestPower}
 use Rattle.algebra.specs.Word.{exponents, terms}
 use Rattle.algebra.proofs.Patterns.Laws.{exponent-degree, without-degree}
-use Rattle.algebra.proofs.Sums.Results.{append-weight}
-use Rattle.sums.proofs.Multiplying.{weight-take}
 use Rattle.sums.specs.Held.{Held, HeldSum}
 use Rattle.sums.proofs.Holding.{each-valid, terms-many, terms-next}
 use Rattle.weights.specs.Capped.{capped}
 use Rattle.weights.proofs.Weighing.{capped-plus, capped-plus-right, capped-times-right}
 
 -- ---- One term more, at the end.
-
-degree-next : (s : Sum) (t : Term) → degreeOf (s ++ (t ∷ [])) ≡ max (degreeOf s) (degree (t .pattern))
-unfolding degreeOf
-degree-next [] t = omega arith
-degree-next (u ∷ s) t = omega (arith, degree-next s t)
-
-weight-next : (s : Sum) (t : Term) → weight (s ++ (t ∷ [])) ≡ weight s + natAbs (t .coefficient)
-weight-next s t = append-weight s (t ∷ []) ∙ unfold weight in omega arith
 
 module _ (v : ℕ) where
   power-next : (s : Sum) (t : Term) → largestPower v (s ++ (t ∷ [])) ≡ max (largestPower v s) (exponent v (t .pattern))
@@ -48,44 +38,6 @@ module _ (v : ℕ) where
     unfolding pairWeight
     pair-weight-next [] t = omega arith
     pair-weight-next (u ∷ s) t = omega (arith, pair-weight-next s t)
-
--- ---- The loop of `size_of`.
-
-pub record Sizing (ws : List ℕ) (cs : List ℤ) (d w k : ℕ) : Type 0 where
-  pub held : Held ws cs
-  pub light : weight (terms ws cs) ≤ largestWeight
-  pub degree-is : d ≡ degreeOf (take k (terms ws cs))
-  pub weight-is : w ≡ weight (take k (terms ws cs))
-  pub inside : k ≤ length ws
-
-pub sizing-start : {ws : List ℕ} {cs : List ℤ} → HeldSum ws cs → Sizing ws cs 0 0 0
-unfolding degreeOf weight
-sizing-start h = record { held = h .held; light = h .accepted .light; degree-is = refl; weight-is = refl; inside = omega arith }
-
-module _ {ws : List ℕ} {cs : List ℤ} {d w k : ℕ} (z : Sizing ws cs d w k) where
-  module _ (h : k < length ws) where
-    abbrev t : Term
-    t = term (getD cs k (pos 0)) (exponents (getD ws k 0))
-
-    weighs : w + natAbs (getD cs k (pos 0)) ≡ weight (take (k + 1) (terms ws cs))
-    weighs = sym (ap weight (terms-next (z .held) k h) ∙ weight-next (take k (terms ws cs)) t ∙ ap (λ (i : ℕ). i + natAbs (t .coefficient)) (sym (z .weight-is)))
-
-    pub sizing-fits : w + natAbs (getD cs k (pos 0)) ≤ largestWeight
-    sizing-fits = omega (arith, weighs, weight-take (k + 1) (terms ws cs), z .light)
-
-    pub sizing-again : {d' w' : ℕ} → d' ≡ max d (degree (exponents (getD ws k 0))) → w' ≡ w + natAbs (getD cs k (pos 0)) → Sizing ws cs d' w' (k + 1)
-    sizing-again degree-is weight-is = record {
-      held = z .held;
-      light = z .light;
-      degree-is = degree-is ∙ ap (λ (i : ℕ). max i (degree (t .pattern))) (z .degree-is) ∙ sym (ap degreeOf (terms-next (z .held) k h) ∙ degree-next (take k (terms ws cs)) t);
-      weight-is = weight-is ∙ weighs;
-      inside = omega arith;
-    }
-
-  pub sizing-ended : length ws ≤ k → (d ≡ degreeOf (terms ws cs)) × (w ≡ weight (terms ws cs))
-  sizing-ended h =
-      let all = take-all k (terms ws cs) (omega (arith, terms-many (z .held))) in
-      (z .degree-is ∙ ap degreeOf all, z .weight-is ∙ ap weight all)
 
 -- ---- The loop of `measure`. D and W are the degree and the weight of the sum that is put.
 

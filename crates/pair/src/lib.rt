@@ -3,44 +3,18 @@
 // Begin with specs/Asked.antt and specs/Formed.antt, then with `measure` (degree and weight) and `putting::put`.
 use algebra::Pattern;
 ghost use mathlib.Core.Path.{_≡_};
-ghost use Rattle.algebra.specs.Sum.{degreeOf, weight};
 ghost use Rattle.algebra.specs.Substitute.{pairDegree, pairWeight, largestPower};
 ghost use Rattle.algebra.specs.Word.{terms};
-ghost use Rattle.sums.specs.Held.{HeldSum};
 ghost use Rattle.weights.specs.Capped.{capped};
 ghost use Rattle.pair.specs.Asked.{CanPut};
 
 pub mod putting;
-
-// The degree and the weight of a sum.
-struct Size {
-    degree: u64,
-    weight: u64,
-}
 
 // What a pair is judged by before anything is formed; and the largest power of the variable. A weight above 2^62 is told by 2^62 + 1.
 pub struct Measured {
     pub degree: u64,
     pub weight: u64,
     pub power: u64,
-}
-
-// The sum is accepted, so its weight needs no cap.
-fn size_of(sp: &[u64], sc: &[i64]) -> Size
-    requires { ⌜ HeldSum (now sp) (now sc) ⌝ }
-    ensures { λ r. ⌜ (r .degree ≡ degreeOf (terms (now (sp .entry)) (now (sc .entry)))) × (r .weight ≡ weight (terms (now (sp .entry)) (now (sc .entry)))) ⌝ }
-{
-    let n = sp.len();
-    let mut degree: u64 = 0;
-    let mut weight: u64 = 0;
-    let mut k = 0;
-    while k < n {
-        let c = sc[k];
-        degree = weights::larger(degree, Pattern(sp[k]).degree());
-        weight += numbers::absolute(c);
-        k += 1;
-    }
-    Size { degree, weight }
 }
 
 // Term by term: the other exponents added and the power of v times the degree of the sum that is put; the absolute coefficient times the weight of that
@@ -50,7 +24,7 @@ pub fn measure(v: u64, sp: &[u64], sc: &[i64], fp: &[u64], fc: &[i64]) -> Measur
     requires { ⌜ CanPut v (now sp) (now sc) (now fp) (now fc) ⌝ }
     ensures { λ r. ⌜ (r .degree ≡ pairDegree v (terms (now (sp .entry)) (now (sc .entry))) (terms (now (fp .entry)) (now (fc .entry)))) × (r .weight ≡ capped (pairWeight v (terms (now (sp .entry)) (now (sc .entry))) (terms (now (fp .entry)) (now (fc .entry))))) × (r .power ≡ largestPower v (terms (now (fp .entry)) (now (fc .entry)))) ⌝ }
 {
-    let size = size_of(sp, sc);
+    let size = sums::size_of(sp, sc);
     let put_degree = size.degree;
     let put_weight = size.weight;
     let n = fp.len();

@@ -21,6 +21,7 @@ pub mod Moving
 pub mod Ranking
 pub mod Gathering
 pub mod Multiplying
+pub mod Sizing
 pub mod ByTerm
 pub mod Pairing
 pub mod Clearing

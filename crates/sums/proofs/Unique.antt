@@ -5,10 +5,12 @@ use Prim.Native.Nat.{ℕ}
 use lib.IntN.{ℤ}
 use denote.Ref.{now}
 use Rattle.answers.proofs.Outcomes.{same}
-use Rattle.answers.specs.Promised.{OneLent}
+use Rattle.answers.specs.Promised.{One, OneLent}
 use Rattle.sums.specs.Formed.{Formed, Formed.formed, Formed.over, formedOf}
 use Rattle.sums.specs.declared.Formed as declared
 use Rattle.sums.specs.declared.Formed.the-variants.{Terms, Over}
+use Rattle.sums.specs.declared.Size.{Size}
+use Rattle.sums.proofs.size_of.Reads as size-of
 use Rattle.sums.proofs.integer.Reads as integer
 use Rattle.sums.proofs.variable.Reads as variable
 use Rattle.sums.proofs.sum.Reads as sum
@@ -41,7 +43,14 @@ pub told-one : (r r' : declared.Formed) {ws ws' : List ℕ} {cs cs' : List ℤ} 
     → (r ≡ r') × (_≡_ {A = TwoAreas} (ws, cs) (ws', cs'))
 told-one r r' h = (formed-one r r' (ap (λ x. x .0) h), ap (λ x. (x .1, x .2)) h)
 
+-- a size is its two numbers
+size : {m n : Size} {d w : ℕ} → (m .degree ≡ d) × (m .weight ≡ w) → (n .degree ≡ d) × (n .weight ≡ w) → m ≡ n
+size h h' = λ j. record { degree = same (h .0) (h' .0) j; weight = same (h .1) (h' .1) j }
+
 -- ---- The functions.
+
+pub size-of-one : One size-of.Learnt
+size-of-one k a r r' e e' h h' = size h h'
 
 -- Refused when tried: 1 has no term; zero has a term.
 pub integer-one : OneLent integer.Learnt {L = TwoAreas} (λ k e. (now (e .1 .0), now (e .1 .1 .0)))

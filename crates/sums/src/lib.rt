@@ -5,13 +5,14 @@ use algebra::MOST_TERMS;
 use algebra::Pattern;
 use answers::areas;
 ghost use mathlib.Core.Path.{_≡_};
-ghost use Prim.Native.Nat.{_+_, _≤_, _<_};
+ghost use Prim.Native.Nat.{_+_, _^_, _≤_, _<_};
 ghost use lib.ListN.{length};
 ghost use Rattle.algebra.specs.Limits.{variables};
-ghost use Rattle.algebra.specs.Sum.{term};
+ghost use Rattle.algebra.specs.Sum.{term, degreeOf, weight};
 ghost use Rattle.algebra.specs.Collect.{dropZeros};
 ghost use Rattle.algebra.specs.Arithmetic.{integer, variable, row};
 ghost use Rattle.algebra.specs.Word.{exponents, terms};
+ghost use Rattle.sums.specs.Held.{Held};
 ghost use Rattle.sums.specs.Asked.{Room, RoomOf, Addends, Factors, Base};
 ghost use Rattle.sums.specs.Formed.{formedOf, Formed.formed, sumOf, productOf, powerOf, formedInto};
 ghost use Rattle.sums.specs.Rows.{HasTerm, RoomFor};
@@ -29,6 +30,12 @@ pub enum Formed {
     Over,
 }
 
+// The degree and the weight of a sum.
+pub struct Size {
+    pub degree: u64,
+    pub weight: u64,
+}
+
 // A running sum of 128 terms and a row of 128 more.
 pub const MOST_PLACES: usize = MOST_TERMS + MOST_TERMS;
 
@@ -36,6 +43,28 @@ pub const MOST_PLACES: usize = MOST_TERMS + MOST_TERMS;
 const FEW_TERMS: usize = 8;
 
 const FEW_PLACES: usize = FEW_TERMS * FEW_TERMS;
+
+// ---- The degree and the weight.
+
+// Both as they are, and not the formal ones. The weight needs no cap: it has to be a number of 64 bits, as that of every accepted sum is.
+pub fn size_of(sp: &[u64], sc: &[i64]) -> Size
+    requires { ⌜ Held (now sp) (now sc) ⌝ }
+    requires { ⌜ weight (terms (now sp) (now sc)) < 2 ^ 64 ⌝ }
+    ensures { λ r. ⌜ (r .degree ≡ degreeOf (terms (now (sp .entry)) (now (sc .entry))))
+        × (r .weight ≡ weight (terms (now (sp .entry)) (now (sc .entry)))) ⌝ }
+{
+    let n = sp.len();
+    let mut degree: u64 = 0;
+    let mut weight: u64 = 0;
+    let mut k = 0;
+    while k < n {
+        let c = sc[k];
+        degree = weights::larger(degree, Pattern(sp[k]).degree());
+        weight += numbers::absolute(c);
+        k += 1;
+    }
+    Size { degree, weight }
+}
 
 // ---- Sums of one term at most.
 

@@ -23,7 +23,7 @@ abbrev μ-loop : tie.MeasureT-loop
 μ-loop v sp sc fp fc put-degree put-weight n degree₀ weight₀ power₀ k₀ degree weight power k = length fp - k
 
 size-of-requires : tie.Need-size-of-requires Inv-loop μ-loop
-size-of-requires c κs = search needs
+size-of-requires c κs = let put = c .before .before .pre .put in (put .held, omega (arith, put .accepted .light))
 
 loop-holds : tie.Need-loop-holds Inv-loop μ-loop
 loop-holds c = let pre = c .before .before .before .pre in start _ (pre .put) (c .size-of .ensures) (pre .into .held)

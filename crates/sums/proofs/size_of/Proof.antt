@@ -1,17 +1,16 @@
 -- `size_of` meets its contract: the loop keeps `Sizing`.
 use mathlib.Core.Path.{_≡_, _∙_, ap}
-use Prim.Native.Nat.{ℕ, _+_, _-_, _≤_, max}
+use Prim.Native.Nat.{ℕ, _+_, _-_, _^_, _<_, max}
 use native.Mathlib.Omega.{arith}
 use borrow.Author.Needs.{needs}
 use lib.IntN.{pos, natAbs}
 use lib.ListN.{length, getD}
 use mir.Syntax.{w64}
 use mir.ValLaws.{toZ-ofZ}
-use Rattle.algebra.specs.Limits.{largestWeight}
 use Rattle.sums.proofs.Holding.{as-many, each-valid}
-use Rattle.pair.proofs.Measuring.{Sizing, sizing-start, sizing-fits, sizing-again, sizing-ended}
-use Rattle.pair.proofs.size_of.Statement.{statement}
-use Rattle.pair.proofs.size_of.Tie as tie
+use Rattle.sums.proofs.Sizing.{Sizing, start, fits, again, ended}
+use Rattle.sums.proofs.size_of.Statement.{statement}
+use Rattle.sums.proofs.size_of.Tie as tie
 
 abbrev Inv-loop : tie.InvT-loop
 Inv-loop sp sc n degree₀ weight₀ k₀ degree weight k = Sizing sp sc degree weight k
@@ -20,7 +19,7 @@ abbrev μ-loop : tie.MeasureT-loop
 μ-loop sp sc n degree₀ weight₀ k₀ degree weight k = length sp - k
 
 loop-holds : tie.Need-loop-holds Inv-loop μ-loop
-loop-holds c = sizing-start (c .before .pre)
+loop-holds c = start (c .before .pre .0) (c .before .pre .1)
 
 mul-c : tie.Need-mul-c Inv-loop μ-loop
 mul-c c = search needs
@@ -50,11 +49,11 @@ size-is d =
     let value = getD (d .before .before .before .before .before .before .before .before .args .sc .now) (d .before .before .before .before .before .before .loop .k) (pos 0) in
     d .absolute .ensures ∙ ap natAbs (toZ-ofZ w64 value record { sfits = d .before .before .before .before .c .given })
 
-added : (d : tie.After-absolute Inv-loop μ-loop) → d .before .before .before .before .before .before .loop .weight + d .absolute .result ≤ largestWeight
-added d = omega (arith, size-is d, sizing-fits (d .before .before .before .before .before .before .loop .inv) (d .before .before .before .before .before .loop-test .taken))
+added : (d : tie.After-absolute Inv-loop μ-loop) → d .before .before .before .before .before .before .loop .weight + d .absolute .result < 2 ^ 64
+added d = omega (arith, size-is d, fits (d .before .before .before .before .before .before .loop .inv) (d .before .before .before .before .before .loop-test .taken))
 
 add-weight : tie.Need-add-weight Inv-loop μ-loop
-add-weight c = record { fits = omega (arith, added c) }
+add-weight c = record { fits = added c }
 
 add-k : tie.Need-add-k Inv-loop μ-loop
 add-k c = search needs
@@ -66,10 +65,10 @@ loop-again : tie.Need-loop-again Inv-loop μ-loop
 loop-again c =
     let loop = c .before .before .before .before .before .before .loop in
     let larger = c .before .larger .ensures ∙ ap (max (loop .degree)) (c .before .before .degree .ensures) in
-    sizing-again (loop .inv) (c .before .before .before .before .before .loop-test .taken) larger (ap (λ (i : ℕ). loop .weight + i) (size-is c))
+    again (loop .inv) (c .before .before .before .before .before .loop-test .taken) larger (ap (λ (i : ℕ). loop .weight + i) (size-is c))
 
 returns : tie.Need-returns Inv-loop μ-loop
-returns c = sizing-ended (c .before .loop .inv) (c .loop-test .left)
+returns c = ended (c .before .loop .inv) (c .loop-test .left)
 
 pub size-of-spec : {M : Type 1} → statement M
 size-of-spec =
