@@ -23,6 +23,8 @@ pub mod Gathering
 pub mod Multiplying
 pub mod Sizing
 pub mod ByTerm
+pub mod Ends
+pub mod AddRow
 pub mod Pairing
 pub mod Clearing
 pub mod Raising

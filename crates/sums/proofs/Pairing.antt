@@ -200,7 +200,7 @@ module _ {ws₀ : List ℕ} {cs₀ : List ℤ} {n : ℕ} {sp : List ℕ} {sc : L
         let many = rw (terms-many (p .can .second), running-many (p .can)) at (upto-many (addable (p .can)) k) in
         row-room n (length sp) (length tp) places enough-room all k (omega (arith, many, p .so-far .stands .number-is)) (placed-few (p .so-far)) h
 
-    -- what `add_row` requires
+    -- what `merge_row` requires
     pub can-merge : CanMerge ws cs all (getD sp k 0) (getD sc k (pos 0)) tp tc
     can-merge = record {
       running = placed-held (p .so-far);

@@ -18,6 +18,7 @@ use Rattle.sums.proofs.multiply_by_term.Reads as multiply-by-term
 use Rattle.sums.proofs.product.Reads as product
 use Rattle.sums.proofs.power.Reads as power
 use Rattle.sums.proofs.rows.rank_words.Reads as rank-words
+use Rattle.sums.proofs.rows.add_row.Reads as add-row
 use Rattle.sums.proofs.rows.add_product.Reads as add-product
 use Rattle.sums.proofs.rows.finish.Reads as finish
 
@@ -81,6 +82,9 @@ pub rank-words-one : OneLent rank-words.Learnt {L = List ℕ} (λ k e. now (e .1
 rank-words-one k a r r' e e' h h' = (refl, same h h')
 
 -- Refused when tried: answers the old number of terms; the words after the sum are not cleared.
+pub add-row-one : OneLent add-row.Learnt {L = TwoAreas} (λ k e. (now (e .0), now (e .1 .0)))
+add-row-one k a r r' e e' h h' = let all = same h h' in (ap (λ x. x .0) all, ap (λ x. (x .1, x .2)) all)
+
 pub add-product-one : OneLent add-product.Learnt {L = TwoAreas} (λ k e. (now (e .0), now (e .1 .0)))
 add-product-one k a r r' e e' h h' = told-one r r' (same h h')
 

@@ -4,7 +4,7 @@ use mathlib.Core.Bool.{_||_}
 use mathlib.Core.List.{List, _++_, map}
 use Prim.Native.Nat.{ℕ, _+_, _*_, _-_, _^_, _≤_, _<_}
 use lib.Dec.{T, leb}
-use lib.IntN.{ℤ, natAbs}
+use lib.IntN.{ℤ, pos, natAbs}
 use lib.ListN.{length, take, drop}
 use Rattle.algebra.specs.Limits.{largestDegree, mostTerms, largestWeight}
 use Rattle.algebra.specs.Pattern.{degree}
@@ -14,7 +14,7 @@ use Rattle.algebra.specs.Arithmetic.{row}
 use Rattle.algebra.specs.Word.{exponents, terms, Valid}
 use Rattle.algebra.specs.Inside.Rank.{rankOf}
 use Rattle.algebra.specs.Held.{wordsOf, coefficientsOf, firstTerms}
-use Rattle.answers.specs.Areas.{written}
+use Rattle.answers.specs.Areas.{written, cleared}
 use Rattle.sums.specs.Held.{Held}
 use Rattle.sums.specs.Formed.{Formed, Formed.formed, Formed.over}
 
@@ -41,6 +41,14 @@ pub record HasTerm (w : ℕ) (c : ℤ) (tp : List ℕ) (tc : List ℤ) : Type 0 
 -- the row and the running sum together; what cancels stays
 abbrev pub joined : ℤ → ℕ → List ℕ → List ℤ → ℕ → List ℕ → List ℤ → Sum
 joined c w tp tc n ws cs = gather (row (term c (exponents w)) (terms tp tc) ++ firstTerms n ws cs)
+
+-- how many terms they have, and the two areas once they stand in the first places: the places after them are 0 up to the last that a merge touches, and all
+-- others stay
+unfoldable pub joinedInto : ℤ → ℕ → List ℕ → List ℤ → ℕ → List ℕ → List ℤ → ℕ × List ℕ × List ℤ
+joinedInto c w tp tc n ws cs =
+    let s = joined c w tp tc n ws cs in
+    let end = n + length tp in
+    (length s, written (wordsOf s) (cleared 0 end ws), written (coefficientsOf s) (cleared (pos 0) end cs))
 
 -- what stands before place `from`, and from place `to` up to place `end`
 abbrev pub closed : {A : Type 0} → ℕ → ℕ → ℕ → List A → List A

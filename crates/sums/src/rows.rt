@@ -1,6 +1,7 @@
 // Rows of products, merged into a running sum. Cancelled patterns stay in a running sum, and count, until it is finished. A running sum and the sums that
 // are multiplied are held by ranks instead of words, in `sr` and `tr`: ranks add up as words do, and two of them compare as numbers.
 use crate::Formed;
+use crate::MOST_PLACES;
 use algebra::MOST_TERMS;
 use algebra::Pattern;
 use algebra::Standing;
@@ -23,7 +24,7 @@ ghost use Rattle.answers.specs.Areas.{written, cleared};
 ghost use Rattle.sums.specs.Held.{Held};
 ghost use Rattle.sums.specs.Asked.{Room};
 ghost use Rattle.sums.specs.Formed.{formedOf, Formed.formed, withRow, formedInto};
-ghost use Rattle.sums.specs.Rows.{CanMerge, joined, Gapped, closed, Stands, CanAdd, Added, rankedInto};
+ghost use Rattle.sums.specs.Rows.{CanMerge, joined, joinedInto, Gapped, closed, Stands, CanAdd, Added, rankedInto};
 
 // The ranks of words.
 // Asks that the words are valid, and there is room for their ranks.
@@ -137,8 +138,9 @@ fn close(ranks: &mut [u64], coefficients: &mut [i64], from: usize, to: usize, en
     i
 }
 
-// Adds a row to a running sum of n terms, and answers how many terms they have together. What stands after them is not said: the areas are the callers' own.
-fn add_row(
+// Merges a row into a running sum of n terms, closes the gap, and answers how many terms they have together. What stands after them is not said: the
+// areas are the callers' own.
+fn merge_row(
     ranks: &mut [u64],
     coefficients: &mut [i64],
     n: usize,
@@ -153,6 +155,63 @@ fn add_row(
     let end = n + tr.len();
     let gap = merge(ranks, coefficients, n, rank, c, tr, tc);
     close(ranks, coefficients, gap.from, gap.to, end)
+}
+
+// The words of ranks.
+fn unrank(ranks: &[u64], words: &mut [u64])
+    requires { ⌜ length (now ranks) ≤ length (now words) ⌝ }
+    ensures { λ r. ⌜ now (words .exit) ≡ written (wordsAt (now (ranks .entry))) (now (words .entry)) ⌝ }
+{
+    let n = ranks.len();
+    let mut k = 0;
+    while k < n {
+        let pattern = Pattern::of_rank(ranks[k]);
+        words[k] = pattern.0;
+        k += 1;
+    }
+}
+
+// Terms that are held by ranks go to the first places of two areas, by words. These are cleared up to place `end` before, so that nothing else is left there.
+fn put_back(gr: &[u64], gc: &[i64], end: usize, patterns: &mut [u64], coefficients: &mut [i64])
+    requires { ⌜ length (now gr) ≤ end ⌝ }
+    requires { ⌜ length (now gc) ≤ end ⌝ }
+    requires { ⌜ end ≤ length (now patterns) ⌝ }
+    requires { ⌜ end ≤ length (now coefficients) ⌝ }
+    ensures { λ r. ⌜ now (patterns .exit) ≡ written (wordsAt (now (gr .entry))) (cleared 0 end (now (patterns .entry))) ⌝ }
+    ensures { λ r. ⌜ now (coefficients .exit) ≡ written (now (gc .entry)) (cleared (pos 0) end (now (coefficients .entry))) ⌝ }
+{
+    areas::clear_words(patterns, end);
+    areas::clear_coefficients(coefficients, end);
+    unrank(gr, patterns);
+    areas::copy_coefficients(coefficients, gc, gc.len());
+}
+
+// The same for other crates, by words: c times the pattern of the word times each term of t goes into the running sum of n terms in the first places of two areas. The
+// answer may be more than 128: what has cancelled stays, and counts. The places after the terms are cleared up to the last that a merge touches; all others stay.
+pub fn add_row(
+    patterns: &mut [u64],
+    coefficients: &mut [i64],
+    n: usize,
+    word: u64,
+    c: i64,
+    tp: &[u64],
+    tc: &[i64],
+) -> usize
+    requires { ⌜ CanMerge (now patterns) (now coefficients) n word c (now tp) (now tc) ⌝ }
+    ensures { λ r. ⌜ (r, now (patterns .exit), now (coefficients .exit))
+        ≡ joinedInto c word (now (tp .entry)) (now (tc .entry)) n (now (patterns .entry)) (now (coefficients .entry)) ⌝ }
+{
+    let mut gr = [0u64; MOST_PLACES];
+    let mut gc = [0i64; MOST_PLACES];
+    let mut tr = [0u64; MOST_TERMS];
+    let m = tp.len();
+    rank_words(&patterns[0..n], &mut gr);
+    areas::copy_coefficients(&mut gc, coefficients, n);
+    rank_words(tp, &mut tr);
+    let rank = Pattern(word).rank();
+    let all = merge_row(&mut gr, &mut gc, n, rank, c, &tr[0..m], tc);
+    put_back(&gr[0..all], &gc[0..all], n + m, patterns, coefficients);
+    all
 }
 
 // Adds all pairs of two sums to a running sum of n terms: a row for each term of s, the first of them first. The patterns of each row stand behind those of the row before, so that a merge
@@ -173,7 +232,7 @@ pub(crate) fn add_pairs(
     let mut k = 0;
     while k < sr.len() {
         let c = sc[k];
-        all = add_row(ranks, coefficients, all, sr[k], c, tr, tc);
+        all = merge_row(ranks, coefficients, all, sr[k], c, tr, tc);
         if all > MOST_TERMS {
             return Formed::Over;
         }

@@ -31,11 +31,11 @@ mul-c c = search needs
 shared-slice-copy-out-c : tie.Need-shared-slice-copy-out-c Inv-loop μ-loop
 shared-slice-copy-out-c c = omega (arith, as-many (c .before .loop .inv .can .first), length-map (c .before .before .before .before .before .args .sr .now) wordAt)
 
-mul-add-row : tie.Need-mul-add-row Inv-loop μ-loop
-mul-add-row c = search needs
+mul-merge-row : tie.Need-mul-merge-row Inv-loop μ-loop
+mul-merge-row c = search needs
 
-shared-slice-read-add-row : tie.Need-shared-slice-read-add-row Inv-loop μ-loop
-shared-slice-read-add-row c = search needs
+shared-slice-read-merge-row : tie.Need-shared-slice-read-merge-row Inv-loop μ-loop
+shared-slice-read-merge-row c = search needs
 
 -- the coefficient that was read, as the machine holds it
 read : (d : tie.After-c Inv-loop μ-loop)
@@ -46,30 +46,30 @@ read d = toZ-ofZ w64 _ (record { sfits = d .c .given })
 more : (d : tie.After-c Inv-loop μ-loop) → d .before .before .loop .k < length (wordsAt (d .before .before .before .before .before .before .args .sr .now))
 more d = omega (arith, length-map (d .before .before .before .before .before .before .args .sr .now) wordAt, d .before .loop-test .taken)
 
-add-row-requires : tie.Need-add-row-requires Inv-loop μ-loop
-add-row-requires c κs =
+merge-row-requires : tie.Need-merge-row-requires Inv-loop μ-loop
+merge-row-requires c κs =
     let d = c .before .before .before in
     let loop = d .before .before .loop in
     let sr = d .before .before .before .before .before .before .args .sr .now in
     rw (read d, ← words-at sr (loop .k)) (can-merge (loop .inv) (more d))
 
 -- what a row's call answers
-told : (d : tie.After-add-row Inv-loop μ-loop)
+told : (d : tie.After-merge-row Inv-loop μ-loop)
     → let loop = d .before .before .before .before .before .before .loop in
     let args = d .before .before .before .before .before .before .before .before .before .before .args in
     Stands (joined (getD (args .sc .now) (loop .k) (pos 0)) (getD (wordsAt (args .sr .now)) (loop .k) 0) (wordsAt (args .tr .now)) (args .tc .now) (loop .all) (wordsAt (loop .ranks)) (loop .coefficients))
-    (d .add-row .result) (wordsAt (d .add-row .last .0)) (d .add-row .last .1 .0)
-told d = rw (words-at (d .before .before .before .before .before .before .before .before .before .before .args .sr .now) (d .before .before .before .before .before .before .loop .k)) (rw (read (d .before .before .before .before)) at (d .add-row .ensures))
+    (d .merge-row .result) (wordsAt (d .merge-row .last .0)) (d .merge-row .last .1 .0)
+told d = rw (words-at (d .before .before .before .before .before .before .before .before .before .before .args .sr .now) (d .before .before .before .before .before .before .loop .k)) (rw (read (d .before .before .before .before)) at (d .merge-row .ensures))
 
-same-ranks : (d : tie.After-add-row Inv-loop μ-loop) → length (d .add-row .last .0) ≡ length (d .before .before .before .before .before .before .before .before .before .before .args .ranks .now)
+same-ranks : (d : tie.After-merge-row Inv-loop μ-loop) → length (d .merge-row .last .0) ≡ length (d .before .before .before .before .before .before .before .before .before .before .args .ranks .now)
 same-ranks d =
-    omega (arith, d .add-row .kept .0, d .before .before .before .before .before .before .loop .inv .same-words, length-map (d .before .before .before .before .before .before .loop .ranks) wordAt, length-map (d .before .before .before .before .before .before .before .before .before .before .args .ranks .now) wordAt)
+    omega (arith, d .merge-row .kept .0, d .before .before .before .before .before .before .loop .inv .same-words, length-map (d .before .before .before .before .before .before .loop .ranks) wordAt, length-map (d .before .before .before .before .before .before .before .before .before .before .args .ranks .now) wordAt)
 
 same-length : tie.Need-same-length Inv-loop μ-loop
 same-length c = let d = c .before .before .before .before in same-ranks d
 
 same-length-2 : tie.Need-same-length-2 Inv-loop μ-loop
-same-length-2 c = let d = c .before .before .before .before in omega (arith, d .add-row .kept .1 .0, d .before .before .before .before .before .before .loop .inv .same-coefficients)
+same-length-2 c = let d = c .before .before .before .before in omega (arith, d .merge-row .kept .1 .0, d .before .before .before .before .before .before .loop .inv .same-coefficients)
 
 returns : tie.Need-returns Inv-loop μ-loop
 returns c =
@@ -87,7 +87,7 @@ loop-again c =
     let d = c .before .before .before .before in
     let loop = d .before .before .before .before .before .before .loop in
     again (loop .inv) (more (d .before .before .before .before)) (told d) (c .if1 .left)
-    (length-map (d .add-row .last .0) wordAt ∙ d .add-row .kept .0 ∙ sym (length-map (loop .ranks) wordAt)) (d .add-row .kept .1 .0)
+    (length-map (d .merge-row .last .0) wordAt ∙ d .merge-row .kept .0 ∙ sym (length-map (loop .ranks) wordAt)) (d .merge-row .kept .1 .0)
 
 same-length-3 : tie.Need-same-length-3 Inv-loop μ-loop
 same-length-3 c = omega (arith, c .before .loop .inv .same-words, length-map (c .before .loop .ranks) wordAt, length-map (c .before .before .before .before .before .args .ranks .now) wordAt)
@@ -107,9 +107,9 @@ add-pairs-spec =
     loop-holds
     mul-c
     shared-slice-copy-out-c
-    mul-add-row
-    shared-slice-read-add-row
-    add-row-requires
+    mul-merge-row
+    shared-slice-read-merge-row
+    merge-row-requires
     same-length
     same-length-2
     returns
