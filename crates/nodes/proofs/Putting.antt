@@ -64,7 +64,7 @@ module _ {i : ℕ} {ns : List ℕ} {ws : List ℕ} {cs : List ℤ} {k : Kind} (r
   read-many : length (readAt a (getD ns a 0) ws) ≡ getD ns a 0
   read-many =
       ap length words-there
-      ∙ length-take-le n (part a ws) (omega (arith, part-length a ws (omega (arith, r .words-room, r .inside)), r .keeps .few a before))
+      ∙ length-take-le n (part a ws) (omega (arith, part-length a ws (omega (arith, r .words-room)), r .keeps .few a before))
 
 module _ {i a b : ℕ} {ns : List ℕ} {ws : List ℕ} {cs : List ℤ} (r : Ready i ns ws cs (sum a b)) where
   pub addends-there : (a < i) × (b < i)
@@ -150,7 +150,6 @@ ready-turned {i} {a} {b} {ns} {ws} {cs} r =
     let h = factors-there r in
     record {
       is-node = rw (lt-ltb b i (h .1), lt-ltb a i (h .0)) tt;
-      inside = r .inside;
       counted = r .counted;
       words-room = r .words-room;
       coefficients-room = r .coefficients-room;

@@ -10,7 +10,7 @@ use lib.IntN.{ℤ}
 use lib.ListN.{length, getD, take, length-append, List·getD-append, List·getD-map}
 use lib.Seq.{getD-at, length-take-le}
 use borrow.Rule.Slice.PartMut.{midOf, putMid}
-use Rattle.algebra.specs.Limits.{variables, largestDegree, mostTerms, largestWeight, mostNodes, workPlaces}
+use Rattle.algebra.specs.Limits.{variables, largestDegree, mostTerms, largestWeight}
 use Rattle.algebra.specs.Sum.{Sum, noZero, degreeOf, weight}
 use Rattle.algebra.specs.Arithmetic as arithmetic
 use Rattle.algebra.specs.Held.{firstTerms}
@@ -82,10 +82,10 @@ lent-room i ws cs room-w room-c = record { words = lent-length i ws room-w; coef
 -- ---- Earlier nodes as operands.
 
 -- the terms of node a, copied to two arrays
-pub operand : {i : ℕ} {ns : List ℕ} {ws : List ℕ} {cs : List ℤ} → Keeps i ns ws cs → (a : ℕ) → a < i → i < mostNodes → workPlaces ≤ length ws → (sp₀ : List ℕ) (sc₀ : List ℤ)
+pub operand : {i : ℕ} {ns : List ℕ} {ws : List ℕ} {cs : List ℤ} → Keeps i ns ws cs → (a : ℕ) → a < i → mostTerms * i + mostTerms ≤ length ws → (sp₀ : List ℕ) (sc₀ : List ℤ)
     {sp : List ℕ} {sc : List ℤ} {count : ℕ} → count ≡ getD ns a 0 → sp ≡ written (take (getD ns a 0) (part a ws)) sp₀ → sc ≡ written (take (getD ns a 0) (part a cs)) sc₀
     → Placed (sumAt ns ws cs a) count sp sc
-operand {i} {ns} {ws} {cs} k a before inside room sp₀ sc₀ is words coefficients =
+operand {i} {ns} {ws} {cs} k a before room sp₀ sc₀ is words coefficients =
     let n = getD ns a 0 in
     let held = k .holds a before .held in
     let many : length (take n (part a ws)) ≡ n = length-take-le n (part a ws) (omega (arith, part-length a ws (omega arith), k .few a before)) in

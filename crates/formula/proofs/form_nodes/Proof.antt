@@ -199,10 +199,9 @@ form-requires c κs =
     let few = few-nodes (a .next) in
     record {
       is-node = is-node (a .next);
-      inside = few;
       counted = omega (arith, few, b .counts-long);
-      words-room = b .words-room;
-      coefficients-room = b .coefficients-room;
+      words-room = omega (arith, few, b .words-room);
+      coefficients-room = omega (arith, few, b .coefficients-room);
       keeps = keeps b;
       low = sums-low a;
       light = sums-light a;

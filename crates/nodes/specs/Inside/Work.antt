@@ -1,11 +1,11 @@
 -- What the code keeps in the work areas: each node's terms in its part. ns has the number of terms of each node.
 use mathlib.Core.Path.{_≡_}
 use mathlib.Core.List.{List, [], _∷_, _++_, map}
-use Prim.Native.Nat.{ℕ, zero, suc, _*_, _≤_, _<_}
+use Prim.Native.Nat.{ℕ, zero, suc, _+_, _*_, _≤_, _<_}
 use lib.Dec.{T}
 use lib.IntN.{ℤ}
 use lib.ListN.{length, getD, take, drop}
-use Rattle.algebra.specs.Limits.{largestDegree, mostTerms, largestWeight, mostNodes, workPlaces}
+use Rattle.algebra.specs.Limits.{largestDegree, mostTerms, largestWeight}
 use Rattle.algebra.specs.Sum.{Sum, degreeOf, weight}
 use Rattle.algebra.specs.Held.{firstTerms}
 use Rattle.answers.specs.Areas.{written}
@@ -36,10 +36,10 @@ nodeFormed ss k = within (nodeSpread ss k) (nodeSum ss k)
 -- what forming node i, of kind k, asks. Degree and weight are judged by the formulas of the formal ones, at the degrees and weights of the sums themselves
 pub record Ready (i : ℕ) (ns : List ℕ) (ws : List ℕ) (cs : List ℤ) (k : Kind) : Type 0 where
   pub is-node : T (isNode i k)
-  pub inside : i < mostNodes
   pub counted : i ≤ length ns
-  pub words-room : workPlaces ≤ length ws
-  pub coefficients-room : workPlaces ≤ length cs
+  -- its own part is the last that is needed
+  pub words-room : mostTerms * i + mostTerms ≤ length ws
+  pub coefficients-room : mostTerms * i + mostTerms ≤ length cs
   pub keeps : Keeps i ns ws cs
   pub low : formalDegree (map degreeOf (sumsAt i ns ws cs)) k ≤ largestDegree
   pub light : formalWeight (map weight (sumsAt i ns ws cs)) k ≤ largestWeight

@@ -26,7 +26,7 @@ base : (d : tie.After-copy-operand)
 base d =
     let s = d .before .before .before .before .before .before .before .before .before in
     let call = d .copy-operand in
-    operand (s .pre .0 .keeps) (s .args .a) (child s) (s .pre .0 .inside) (s .pre .0 .words-room) (s .args .sp .now) (s .args .sc .now) (omega arith) (call .ensures .0) (call .ensures .1)
+    operand (s .pre .0 .keeps) (s .args .a) (child s) (s .pre .0 .words-room) (s .args .sp .now) (s .args .sc .now) (omega arith) (call .ensures .0) (call .ensures .1)
 
 mul-n : tie.Need-mul-n
 mul-n c = let h = child (c .before .before .before) in search needs

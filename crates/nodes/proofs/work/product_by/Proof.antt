@@ -1,9 +1,10 @@
 -- `product_by` meets its contract: its operands are the sums of two earlier nodes, copied, and both work areas lend the part of node i.
 use mathlib.Core.List.{List}
-use Prim.Native.Nat.{_-_, _<_}
+use Prim.Native.Nat.{_+_, _*_, _-_, _^_, _<_}
 use native.Mathlib.Omega.{arith}
 use borrow.Author.Needs.{needs}
 use lib.ListN.{getD}
+use Rattle.algebra.specs.Limits.{mostTerms}
 use Rattle.algebra.specs.Sum.{Sum}
 use Rattle.sums.proofs.Fronts.{Placed, placed-inside, placed-held}
 use Rattle.nodes.specs.Inside.Work.{sumAt, sumsAt}
@@ -18,24 +19,32 @@ children c = two-children (c .args .i) _ _ (c .pre .0 .is-node)
 abbrev kept : (c : tie.Start) → List Sum
 kept c = sumsAt (c .args .i) (c .args .counts .now) (c .args .patterns .now) (c .args .coefficients .now)
 
--- the operands, when both are copied
+-- its part lies within an area, so its places are no large numbers
+place : (s : tie.Start) → 8 * (mostTerms * s .args .i + mostTerms) < 2 ^ 64
+place s = omega arith
+
+-- the start, when both operands are copied
+abbrev start-of : tie.After-copy-operand2 → tie.Start
+start-of d = d .before .before .before .before .before .before .before .before .before .before .before .before .before .before .before .before .before .before .before
+
+-- the operands then
 first : (d : tie.After-copy-operand2)
-    → let args = d .before .before .before .before .before .before .before .before .before .before .before .before .before .before .before .before .before .before .before .args in
+    → let args = start-of d .args in
     let last = d .before .before .before .before .before .before .before .before .copy-operand .last in
     Placed (sumAt (args .counts .now) (args .patterns .now) (args .coefficients .now) (args .a)) (getD (args .counts .now) (args .a) 0 - 0) (last .1 .1 .1 .1 .0) (last .1 .1 .1 .1 .1 .0)
 first d =
-    let s = d .before .before .before .before .before .before .before .before .before .before .before .before .before .before .before .before .before .before .before in
+    let s = start-of d in
     let call = d .before .before .before .before .before .before .before .before .copy-operand in
-    operand (s .pre .0 .keeps) (s .args .a) (children s .0) (s .pre .0 .inside) (s .pre .0 .words-room) (s .args .sp .now) (s .args .sc .now) (omega arith) (call .ensures .0) (call .ensures .1)
+    operand (s .pre .0 .keeps) (s .args .a) (children s .0) (s .pre .0 .words-room) (s .args .sp .now) (s .args .sc .now) (omega arith) (call .ensures .0) (call .ensures .1)
 
 second : (d : tie.After-copy-operand2)
-    → let args = d .before .before .before .before .before .before .before .before .before .before .before .before .before .before .before .before .before .before .before .args in
+    → let args = start-of d .args in
     let last = d .copy-operand2 .last in
     Placed (sumAt (args .counts .now) (args .patterns .now) (args .coefficients .now) (args .b)) (getD (args .counts .now) (args .b) 0 - 0) (last .1 .1 .1 .1 .0) (last .1 .1 .1 .1 .1 .0)
 second d =
-    let s = d .before .before .before .before .before .before .before .before .before .before .before .before .before .before .before .before .before .before .before in
+    let s = start-of d in
     let call = d .copy-operand2 in
-    operand (s .pre .0 .keeps) (s .args .b) (children s .1) (s .pre .0 .inside) (s .pre .0 .words-room) (s .args .tp .now) (s .args .tc .now) (omega arith) (call .ensures .0) (call .ensures .1)
+    operand (s .pre .0 .keeps) (s .args .b) (children s .1) (s .pre .0 .words-room) (s .args .tp .now) (s .args .tc .now) (omega arith) (call .ensures .0) (call .ensures .1)
 
 mul-n : tie.Need-mul-n
 mul-n c = let h = children (c .before .before .before .before) in search needs
@@ -62,10 +71,10 @@ copy-operand-requires-2 c κs =
     (omega arith, (omega arith, (s .pre .0 .keeps .few _ (h .1), (search needs, search needs))))
 
 mul-start : tie.Need-mul-start
-mul-start c = search needs
+mul-start c = record { fits = omega (arith, place (start-of (c .before .before .before))) }
 
 add-end : tie.Need-add-end
-add-end c = search needs
+add-end c = record { fits = omega (arith, place (start-of (c .before .before .before))) }
 
 sub-product : tie.Need-sub-product
 sub-product c = search needs
@@ -104,7 +113,7 @@ part-product-end-4 : tie.Need-part-product-end-4
 part-product-end-4 c = omega (arith, placed-inside (second (c .before .before .before .before .before .before .before .before .before .before)) .1)
 
 mul-product : tie.Need-mul-product
-mul-product c = search needs
+mul-product c = let ready = start-of (c .before .before .before .before .before .before .before .before .before .before .before) in record { fits = omega (arith, place ready) }
 
 sub-product-5 : tie.Need-sub-product-5
 sub-product-5 c = search needs
@@ -116,7 +125,7 @@ part-product-end-5 : tie.Need-part-product-end-5
 part-product-end-5 c = search needs
 
 mul-product-2 : tie.Need-mul-product-2
-mul-product-2 c = omega (arith, c .before .before .before .before .before .before .before .before .before .before .before .before .before .before .before .before .before .before .before .before .before .before .before .before .before .before .before .before .before .before .before .pre .0 .inside)
+mul-product-2 c = let ready = start-of (c .before .before .before .before .before .before .before .before .before .before .before .before) in record { fits = omega (arith, place ready) }
 
 sub-product-6 : tie.Need-sub-product-6
 sub-product-6 c = search needs
@@ -125,12 +134,12 @@ part-product-start-6 : tie.Need-part-product-start-6
 part-product-start-6 c = search needs
 
 part-product-end-6 : tie.Need-part-product-end-6
-part-product-end-6 c = let ready = c .before .before .before .before .before .before .before .before .before .before .before .before .before .before .before .before .before .before .before .before .before .before .before .before .before .before .before .before .before .before .before .pre .0 in omega (arith, ready .inside, ready .coefficients-room)
+part-product-end-6 c = let ready = c .before .before .before .before .before .before .before .before .before .before .before .before .before .before .before .before .before .before .before .before .before .before .before .before .before .before .before .before .before .before .before .pre .0 in omega (arith, ready .coefficients-room)
 
 product-requires : tie.Need-product-requires
 product-requires c κs =
     let d = c .before .before .before .before .before .before .before .before .before .before .before .before .before in
-    let s = d .before .before .before .before .before .before .before .before .before .before .before .before .before .before .before .before .before .before .before in
+    let s = start-of d in
     let ready = s .pre .0 in
     let h = children s in
     let f = first d in
@@ -167,7 +176,7 @@ same-length-6 c = search needs
 returns : tie.Need-returns
 returns c =
     let d = c .before .before .before .before .before .before .before .before .before .before .before .before .before .before .before .before .before in
-    let s = d .before .before .before .before .before .before .before .before .before .before .before .before .before .before .before .before .before .before .before in
+    let s = start-of d in
     let h = children s in
     let call = c .before .before .before .product in
     let is = factors-formed (kept s) (s .args .a) (s .args .b) (operand-is (s .pre .0 .keeps) (s .args .a) (h .0) (first d)) (operand-is (s .pre .0 .keeps) (s .args .b) (h .1) (second d)) in

@@ -19,7 +19,7 @@ shared-slice-read-p-end : tie.Need-shared-slice-read-p-end
 shared-slice-read-p-end c = let r = c .before .before .before .before .pre .0 in omega (arith, addends-there r .0, r .counted)
 
 add-p-end : tie.Need-add-p-end
-add-p-end c = let r = c .before .before .before .before .pre .0 in let h = addends-there r in omega (arith, h .0, r .inside, r .keeps .few _ (h .0))
+add-p-end c = let r = c .before .before .before .before .pre .0 in let h = addends-there r in omega (arith, h .0, r .words-room, r .keeps .few _ (h .0))
 
 mul-q-end : tie.Need-mul-q-end
 mul-q-end c = let h = addends-there (c .before .before .before .before .pre .0) in search needs
@@ -28,7 +28,7 @@ shared-slice-read-q-end : tie.Need-shared-slice-read-q-end
 shared-slice-read-q-end c = let r = c .before .before .before .before .before .pre .0 in omega (arith, addends-there r .1, r .counted)
 
 add-q-end : tie.Need-add-q-end
-add-q-end c = let r = c .before .before .before .before .before .pre .0 in let h = addends-there r in omega (arith, h .1, r .inside, r .keeps .few _ (h .1))
+add-q-end c = let r = c .before .before .before .before .before .pre .0 in let h = addends-there r in omega (arith, h .1, r .words-room, r .keeps .few _ (h .1))
 
 mul-sum : tie.Need-mul-sum
 mul-sum c = let h = addends-there (c .before .before .before .before .before .pre .0) in search needs
@@ -40,7 +40,7 @@ part-sum-start : tie.Need-part-sum-start
 part-sum-start c = search needs
 
 part-sum-end : tie.Need-part-sum-end
-part-sum-end c = let r = c .before .before .before .before .before .before .pre .0 in let h = addends-there r in omega (arith, h .0, r .inside, r .words-room, r .keeps .few _ (h .0))
+part-sum-end c = let r = c .before .before .before .before .before .before .pre .0 in let h = addends-there r in omega (arith, h .0, r .words-room, r .keeps .few _ (h .0))
 
 mul-sum-2 : tie.Need-mul-sum-2
 mul-sum-2 c = let h = addends-there (c .before .before .before .before .before .before .before .pre .0) in search needs
@@ -52,7 +52,7 @@ part-sum-start-2 : tie.Need-part-sum-start-2
 part-sum-start-2 c = search needs
 
 part-sum-end-2 : tie.Need-part-sum-end-2
-part-sum-end-2 c = let r = c .before .before .before .before .before .before .before .before .pre .0 in let h = addends-there r in omega (arith, h .0, r .inside, r .coefficients-room, r .keeps .few _ (h .0))
+part-sum-end-2 c = let r = c .before .before .before .before .before .before .before .before .pre .0 in let h = addends-there r in omega (arith, h .0, r .coefficients-room, r .keeps .few _ (h .0))
 
 mul-sum-3 : tie.Need-mul-sum-3
 mul-sum-3 c = let h = addends-there (c .before .before .before .before .before .before .before .before .before .pre .0) in search needs
@@ -64,7 +64,7 @@ part-sum-start-3 : tie.Need-part-sum-start-3
 part-sum-start-3 c = search needs
 
 part-sum-end-3 : tie.Need-part-sum-end-3
-part-sum-end-3 c = let r = c .before .before .before .before .before .before .before .before .before .pre .0 in let h = addends-there r in omega (arith, h .1, r .inside, r .words-room, r .keeps .few _ (h .1))
+part-sum-end-3 c = let r = c .before .before .before .before .before .before .before .before .before .pre .0 in let h = addends-there r in omega (arith, h .1, r .words-room, r .keeps .few _ (h .1))
 
 mul-sum-4 : tie.Need-mul-sum-4
 mul-sum-4 c = let h = addends-there (c .before .before .before .before .before .before .before .before .before .before .pre .0) in search needs
@@ -76,7 +76,7 @@ part-sum-start-4 : tie.Need-part-sum-start-4
 part-sum-start-4 c = search needs
 
 part-sum-end-4 : tie.Need-part-sum-end-4
-part-sum-end-4 c = let r = c .before .before .before .before .before .before .before .before .before .before .pre .0 in let h = addends-there r in omega (arith, h .1, r .inside, r .coefficients-room, r .keeps .few _ (h .1))
+part-sum-end-4 c = let r = c .before .before .before .before .before .before .before .before .before .before .pre .0 in let h = addends-there r in omega (arith, h .1, r .coefficients-room, r .keeps .few _ (h .1))
 
 sum-requires : tie.Need-sum-requires
 sum-requires c κs = let pre = c .before .before .before .before .before .before .before .before .before .before .before .before .before .pre in (addends (pre .0), addends-room (pre .0) (pre .1))
@@ -103,7 +103,7 @@ returns : tie.Need-returns
 returns c = let s = (c .before .before .before .before .before .before .before .before .before .before .before .before .before .before .before .before .before .before .before) in put-none (s .args .i) _ _ (addends-made (s .pre .0) (c .before .before .before .before .before .sum .result) (c .before .before .before .before .before .sum .ensures)) (c .before .match .keys2)
 
 put-terms-requires : tie.Need-put-terms-requires
-put-terms-requires c κs = let r = c .before .before .before .before .before .before .before .before .before .before .before .before .before .before .before .before .before .before .before .before .before .before .before .before .pre .0 in (omega (arith, r .inside, r .words-room), (omega (arith, r .inside, r .coefficients-room), put-few 0 [] [] (addends-made r (c .before .before .before .before .before .before .before .before .before .before .sum .result) (c .before .before .before .before .before .before .before .before .before .before .sum .ensures)) (c .before .before .before .before .before .formed .given .1)))
+put-terms-requires c κs = let r = c .before .before .before .before .before .before .before .before .before .before .before .before .before .before .before .before .before .before .before .before .before .before .before .before .pre .0 in (omega (arith, r .words-room), (omega (arith, r .coefficients-room), put-few 0 [] [] (addends-made r (c .before .before .before .before .before .before .before .before .before .before .sum .result) (c .before .before .before .before .before .before .before .before .before .before .sum .ensures)) (c .before .before .before .before .before .formed .given .1)))
 
 same-length-5 : tie.Need-same-length-5
 same-length-5 c = search needs

@@ -21,19 +21,19 @@ shared-slice-read-q-end : tie.Need-shared-slice-read-q-end
 shared-slice-read-q-end c = let r = c .before .before .before .before .pre .0 in omega (arith, factors-there r .1, r .counted)
 
 add-q-end : tie.Need-add-q-end
-add-q-end c = let r = c .before .before .before .before .pre .0 in let h = factors-there r in omega (arith, h .1, r .inside, r .keeps .few _ (h .1))
+add-q-end c = let r = c .before .before .before .before .pre .0 in let h = factors-there r in omega (arith, h .1, r .words-room, r .keeps .few _ (h .1))
 
 mul-c : tie.Need-mul-c
 mul-c c = let h = factors-there (c .before .before .before .before .pre .0) in search needs
 
 slice-copy-out-c : tie.Need-slice-copy-out-c
-slice-copy-out-c c = let r = c .before .before .before .before .pre .0 in omega (arith, factors-there r .0, r .inside, r .coefficients-room)
+slice-copy-out-c c = let r = c .before .before .before .before .pre .0 in omega (arith, factors-there r .0, r .coefficients-room)
 
 mul-multiply-by-term : tie.Need-mul-multiply-by-term
 mul-multiply-by-term c = let h = factors-there (c .before .before .before .before .before .pre .0) in search needs
 
 slice-read-multiply-by-term : tie.Need-slice-read-multiply-by-term
-slice-read-multiply-by-term c = let r = c .before .before .before .before .before .before .pre .0 in omega (arith, factors-there r .0, r .inside, r .words-room)
+slice-read-multiply-by-term c = let r = c .before .before .before .before .before .before .pre .0 in omega (arith, factors-there r .0, r .words-room)
 
 mul-multiply-by-term-2 : tie.Need-mul-multiply-by-term-2
 mul-multiply-by-term-2 c = let h = factors-there (c .before .before .before .before .before .before .pre .0) in search needs
@@ -45,7 +45,7 @@ part-multiply-by-term-start : tie.Need-part-multiply-by-term-start
 part-multiply-by-term-start c = search needs
 
 part-multiply-by-term-end : tie.Need-part-multiply-by-term-end
-part-multiply-by-term-end c = let r = c .before .before .before .before .before .before .before .pre .0 in let h = factors-there r in omega (arith, h .1, r .inside, r .words-room, r .keeps .few _ (h .1))
+part-multiply-by-term-end c = let r = c .before .before .before .before .before .before .before .pre .0 in let h = factors-there r in omega (arith, h .1, r .words-room, r .keeps .few _ (h .1))
 
 mul-multiply-by-term-3 : tie.Need-mul-multiply-by-term-3
 mul-multiply-by-term-3 c = let h = factors-there (c .before .before .before .before .before .before .before .before .pre .0) in search needs
@@ -57,7 +57,7 @@ part-multiply-by-term-start-2 : tie.Need-part-multiply-by-term-start-2
 part-multiply-by-term-start-2 c = search needs
 
 part-multiply-by-term-end-2 : tie.Need-part-multiply-by-term-end-2
-part-multiply-by-term-end-2 c = let r = c .before .before .before .before .before .before .before .before .before .pre .0 in let h = factors-there r in omega (arith, h .1, r .inside, r .coefficients-room, r .keeps .few _ (h .1))
+part-multiply-by-term-end-2 c = let r = c .before .before .before .before .before .before .before .before .before .pre .0 in let h = factors-there r in omega (arith, h .1, r .coefficients-room, r .keeps .few _ (h .1))
 
 multiply-by-term-requires : tie.Need-multiply-by-term-requires
 multiply-by-term-requires c κs = let pre = c .before .before .before .before .before .before .before .before .before .before .before .before .pre in (rw (toZ-ofZ w64 _ (record { sfits = c .before .before .before .before .before .before .before .c .given })) (only-term (pre .0) (pre .1 .0)), second-room (pre .0) (pre .1 .0) (pre .1 .1))
@@ -84,7 +84,7 @@ returns : tie.Need-returns
 returns c = let s = (c .before .before .before .before .before .before .before .before .before .before .before .before .before .before .before .before .before .before) in put-none (s .args .i) _ _ (term-made (s .pre .0) (s .pre .1 .0) (toZ-ofZ w64 _ (record { sfits = c .before .before .before .before .before .before .before .before .before .before .before .before .before .c .given })) (c .before .before .before .before .before .multiply-by-term .result) (c .before .before .before .before .before .multiply-by-term .ensures)) (c .before .match .keys2)
 
 put-terms-requires : tie.Need-put-terms-requires
-put-terms-requires c κs = let pre = c .before .before .before .before .before .before .before .before .before .before .before .before .before .before .before .before .before .before .before .before .before .before .before .pre in let r = pre .0 in (omega (arith, r .inside, r .words-room), (omega (arith, r .inside, r .coefficients-room), put-few 0 [] [] (term-made r (pre .1 .0) (toZ-ofZ w64 _ (record { sfits = c .before .before .before .before .before .before .before .before .before .before .before .before .before .before .before .before .before .before .c .given })) (c .before .before .before .before .before .before .before .before .before .before .multiply-by-term .result) (c .before .before .before .before .before .before .before .before .before .before .multiply-by-term .ensures)) (c .before .before .before .before .before .formed .given .1)))
+put-terms-requires c κs = let pre = c .before .before .before .before .before .before .before .before .before .before .before .before .before .before .before .before .before .before .before .before .before .before .before .pre in let r = pre .0 in (omega (arith, r .words-room), (omega (arith, r .coefficients-room), put-few 0 [] [] (term-made r (pre .1 .0) (toZ-ofZ w64 _ (record { sfits = c .before .before .before .before .before .before .before .before .before .before .before .before .before .before .before .before .before .before .c .given })) (c .before .before .before .before .before .before .before .before .before .before .multiply-by-term .result) (c .before .before .before .before .before .before .before .before .before .before .multiply-by-term .ensures)) (c .before .before .before .before .before .formed .given .1)))
 
 same-length-5 : tie.Need-same-length-5
 same-length-5 c = search needs
