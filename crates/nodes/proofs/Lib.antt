@@ -4,4 +4,5 @@ pub mod Formally
 pub mod Spelled
 pub mod Working
 pub mod Putting
+pub mod Like
 pub mod Unique
