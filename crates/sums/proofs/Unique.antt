@@ -81,10 +81,10 @@ power-one k a r r' e e' h h' = told-one r r' (same h h')
 pub rank-words-one : OneLent rank-words.Learnt {L = List ℕ} (λ k e. now (e .1 .0))
 rank-words-one k a r r' e e' h h' = (refl, same h h')
 
--- Refused when tried: answers the old number of terms; the words after the sum are not cleared.
 pub add-row-one : OneLent add-row.Learnt {L = TwoAreas} (λ k e. (now (e .0), now (e .1 .0)))
 add-row-one k a r r' e e' h h' = let all = same h h' in (ap (λ x. x .0) all, ap (λ x. (x .1, x .2)) all)
 
+-- Refused when tried: answers the old number of terms; the words after the sum are not cleared.
 pub add-product-one : OneLent add-product.Learnt {L = TwoAreas} (λ k e. (now (e .0), now (e .1 .0)))
 add-product-one k a r r' e e' h h' = told-one r r' (same h h')
 

@@ -47,6 +47,7 @@ const FEW_PLACES: usize = FEW_TERMS * FEW_TERMS;
 // ---- The degree and the weight.
 
 // Both as they are, and not the formal ones. The weight needs no cap: it has to be a number of 64 bits, as that of every accepted sum is.
+// Asks that the slices hold terms in order, and that their weight is below 2^64.
 pub fn size_of(sp: &[u64], sc: &[i64]) -> Size
     requires { ⌜ Held (now sp) (now sc) ⌝ }
     requires { ⌜ weight (terms (now sp) (now sc)) < 2 ^ 64 ⌝ }

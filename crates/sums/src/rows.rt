@@ -188,6 +188,7 @@ fn put_back(gr: &[u64], gc: &[i64], end: usize, patterns: &mut [u64], coefficien
 
 // The same for other crates, by words: c times the pattern of the word times each term of t goes into the running sum of n terms in the first places of two areas. The
 // answer may be more than 128: what has cancelled stays, and counts. The places after the terms are cleared up to the last that a merge touches; all others stay.
+// Asks that the running sum and t are held, that the row's degree is at most 60, that the weights of both together are below 2^63, and that both areas have room for all terms of both.
 pub fn add_row(
     patterns: &mut [u64],
     coefficients: &mut [i64],
