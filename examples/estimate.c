@@ -67,7 +67,7 @@ static int16_t read_number(const char *word, char **rest) {
 static void read_reading(const char *word) {
     int v = word[0] - 'a';
     char *rest;
-    if (v < 0 || v > 7 || word[1] != '=') bad_word(word);
+    if (v < 0 || v >= REEVEBOOM_VARIABLES || word[1] != '=') bad_word(word);
     rest = (char *)word + 2;
     put(readings, v, read_number(word, &rest));
     if (*rest == '~') {

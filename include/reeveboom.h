@@ -40,6 +40,9 @@ typedef char reeveboom_is_for_machines_of_64_bits[sizeof(size_t) == 8 ? 1 : -1];
 extern "C" {
 #endif
 
+/* The variables: a to h. */
+enum { REEVEBOOM_VARIABLES = 8 };
+
 /* ---- Memory.
  *
  * How long areas must be at least (readings and tolerances: exactly). A longer area is fine: its further places stay as they are. */
@@ -48,7 +51,7 @@ enum {
     REEVEBOOM_TERM_PLACES = 128,   /* patterns and coefficients, where a sum is unpacked into them: 1 KiB each */
     REEVEBOOM_WORK_PLACES = 8192,  /* patterns and coefficients, where they are work areas: 64 KiB each, so 128 KiB for both */
     REEVEBOOM_RESULT_BYTES = 2306, /* a packed result: 2.3 KiB */
-    REEVEBOOM_READING_BYTES = 16,
+    REEVEBOOM_READING_BYTES = 2 * REEVEBOOM_VARIABLES,
     REEVEBOOM_ANSWER_BYTES = 16
 };
 

@@ -6,7 +6,7 @@
  * nothing takes there. So the arguments that are passed on the stack and the way back count, and so does what memcpy, memmove and memset take. A part of the last
  * frame that is not written to does not count: the limits have room for it.
  *
- * The inputs are meant to reach the deep paths: texts with 16 brackets, products and powers of many terms, pairs with large powers, sums of 128 terms, and refusals
+ * The inputs are meant to reach the deep paths: texts with as many brackets as there may be, products and powers of many terms, pairs with large powers, the longest sums, and refusals
  * of all kinds. What is seen is the most over all of them.
  */
 #define _XOPEN_SOURCE 600
@@ -15,6 +15,7 @@
 #include <string.h>
 #include <ucontext.h>
 
+#include "limits.h"
 #include "reeveboom.h"
 
 /* ---- The painted stack. */
@@ -54,38 +55,36 @@ static size_t depth(void (*call)(void)) {
 
 static const uint8_t *text;
 static const uint8_t *list;
-static size_t text_length, table_length, sum_length, list_length, room = REEVEBOOM_RESULT_BYTES;
+static size_t text_length, table_length, sum_length, list_length;
+static int no_room;
 static uint64_t count, variable, number;
 static int64_t table[REEVEBOOM_TABLE_PLACES];
-static uint8_t sum[REEVEBOOM_RESULT_BYTES + 1], result[REEVEBOOM_RESULT_BYTES], readings[16], tolerances[16], answer[16];
+static uint8_t sum[REEVEBOOM_RESULT_BYTES + 1], result[REEVEBOOM_RESULT_BYTES], readings[REEVEBOOM_READING_BYTES], tolerances[REEVEBOOM_READING_BYTES],
+               answer[REEVEBOOM_ANSWER_BYTES];
 static uint64_t term_patterns[REEVEBOOM_TERM_PLACES], patterns[REEVEBOOM_WORK_PLACES];
 static int64_t term_coefficients[REEVEBOOM_TERM_PLACES], coefficients[REEVEBOOM_WORK_PLACES];
 
+/* An area of this file, and its length. One that is lent to be written to has none where no function is to have room. */
+#define ALL_OF(area) area, sizeof area / sizeof *area
+#define INTO(area) area, no_room ? 0 : sizeof area / sizeof *area
+#define INTO_WORK INTO(patterns), INTO(coefficients)
+
 static void call_nothing(void) {}
-
-static void call_text(void) { number = reeveboom_text(text, text_length, table, REEVEBOOM_TABLE_PLACES); }
-
-static void call_simplify(void) {
-    number = reeveboom_simplify(table, table_length, result, room, patterns, REEVEBOOM_WORK_PLACES, coefficients, REEVEBOOM_WORK_PLACES);
-}
-
-static void call_unpack(void) { number = reeveboom_unpack(sum, sum_length, term_patterns, REEVEBOOM_TERM_PLACES, term_coefficients, REEVEBOOM_TERM_PLACES); }
-
-static void call_pack(void) { number = reeveboom_pack(count, term_patterns, REEVEBOOM_TERM_PLACES, term_coefficients, REEVEBOOM_TERM_PLACES, result, room); }
-
-static void call_slope(void) { number = reeveboom_slope(sum, sum_length, variable, result, room); }
-
-static void call_substitute(void) {
-    number = reeveboom_substitute(sum, sum_length, list, list_length, result, room, patterns, REEVEBOOM_WORK_PLACES, coefficients, REEVEBOOM_WORK_PLACES);
-}
-
-static void call_estimate(void) { number = reeveboom_estimate(sum, sum_length, readings, 16, tolerances, 16, answer, sizeof answer); }
+static void call_text(void) { number = reeveboom_text(text, text_length, INTO(table)); }
+static void call_simplify(void) { number = reeveboom_simplify(table, table_length, INTO(result), INTO_WORK); }
+static void call_unpack(void) { number = reeveboom_unpack(sum, sum_length, INTO(term_patterns), INTO(term_coefficients)); }
+static void call_pack(void) { number = reeveboom_pack(count, ALL_OF(term_patterns), ALL_OF(term_coefficients), INTO(result)); }
+static void call_slope(void) { number = reeveboom_slope(sum, sum_length, variable, INTO(result)); }
+static void call_substitute(void) { number = reeveboom_substitute(sum, sum_length, list, list_length, INTO(result), INTO_WORK); }
+static void call_estimate(void) { number = reeveboom_estimate(sum, sum_length, ALL_OF(readings), ALL_OF(tolerances), INTO(answer)); }
 
 /* Sets of answers: 1 for done, and a bit for each refusal. */
 #define DONE 1u
 #define REFUSES(refusal) (1u << REEVEBOOM_##refusal)
 
-/* What a function may take; which answers the inputs below have to reach; the most that it has taken; and which answers were met. */
+enum { TEXT, SIMPLIFY, UNPACK, PACK, SLOPE, SUBSTITUTE, ESTIMATE, FUNCTIONS };
+
+/* What a function may take; which answers the inputs below have to reach, besides DONE and ROOM; the most that it has taken; and which answers were met. */
 static struct {
     const char *name;
     void (*call)(void);
@@ -93,19 +92,17 @@ static struct {
     unsigned wanted;
     size_t most;
     unsigned met;
-} functions[] = {
-    { "reeveboom_text", call_text, REEVEBOOM_TEXT_STACK, DONE | REFUSES(TEXT) | REFUSES(NODES), 0, 0 },
-    { "reeveboom_simplify", call_simplify, REEVEBOOM_SIMPLIFY_STACK,
-      DONE | REFUSES(ROOM) | REFUSES(SHAPE) | REFUSES(NODE) | REFUSES(DEGREE) | REFUSES(WEIGHT) | REFUSES(SPREAD), 0, 0 },
-    { "reeveboom_unpack", call_unpack, REEVEBOOM_UNPACK_STACK, DONE | REFUSES(SUM), 0, 0 },
-    { "reeveboom_pack", call_pack, REEVEBOOM_PACK_STACK, DONE | REFUSES(ROOM) | REFUSES(SHAPE) | REFUSES(SUM), 0, 0 },
-    { "reeveboom_slope", call_slope, REEVEBOOM_SLOPE_STACK, DONE | REFUSES(ROOM) | REFUSES(SUM) | REFUSES(VARIABLE) | REFUSES(WEIGHT), 0, 0 },
-    { "reeveboom_substitute", call_substitute, REEVEBOOM_SUBSTITUTE_STACK,
-      DONE | REFUSES(ROOM) | REFUSES(SUM) | REFUSES(LIST) | REFUSES(DEGREE) | REFUSES(WEIGHT) | REFUSES(SPREAD), 0, 0 },
-    { "reeveboom_estimate", call_estimate, REEVEBOOM_ESTIMATE_STACK, DONE | REFUSES(SUM) | REFUSES(READING) | REFUSES(RANGE), 0, 0 },
+} functions[FUNCTIONS] = {
+    [TEXT] = { "reeveboom_text", call_text, REEVEBOOM_TEXT_STACK, REFUSES(TEXT) | REFUSES(NODES), 0, 0 },
+    [SIMPLIFY] = { "reeveboom_simplify", call_simplify, REEVEBOOM_SIMPLIFY_STACK,
+                   REFUSES(SHAPE) | REFUSES(NODE) | REFUSES(DEGREE) | REFUSES(WEIGHT) | REFUSES(SPREAD), 0, 0 },
+    [UNPACK] = { "reeveboom_unpack", call_unpack, REEVEBOOM_UNPACK_STACK, REFUSES(SUM), 0, 0 },
+    [PACK] = { "reeveboom_pack", call_pack, REEVEBOOM_PACK_STACK, REFUSES(SHAPE) | REFUSES(SUM), 0, 0 },
+    [SLOPE] = { "reeveboom_slope", call_slope, REEVEBOOM_SLOPE_STACK, REFUSES(SUM) | REFUSES(VARIABLE) | REFUSES(WEIGHT), 0, 0 },
+    [SUBSTITUTE] = { "reeveboom_substitute", call_substitute, REEVEBOOM_SUBSTITUTE_STACK,
+                     REFUSES(SUM) | REFUSES(LIST) | REFUSES(DEGREE) | REFUSES(WEIGHT) | REFUSES(SPREAD), 0, 0 },
+    [ESTIMATE] = { "reeveboom_estimate", call_estimate, REEVEBOOM_ESTIMATE_STACK, REFUSES(SUM) | REFUSES(READING) | REFUSES(RANGE), 0, 0 },
 };
-
-enum { TEXT, SIMPLIFY, UNPACK, PACK, SLOPE, SUBSTITUTE, ESTIMATE, FUNCTIONS };
 
 static size_t nothing;
 
@@ -113,7 +110,7 @@ static size_t nothing;
 static int done(int function) {
     size_t taken = depth(functions[function].call) - nothing;
     if (taken > functions[function].most) functions[function].most = taken;
-    functions[function].met |= 1u << (reeveboom_refusal(number) & 15u);
+    functions[function].met |= 1u << (reeveboom_refusal(number) & 31u);
     return reeveboom_refusal(number) == 0;
 }
 
@@ -124,7 +121,7 @@ static size_t packed(const char *typed, uint8_t *into) {
     text = (const uint8_t *)typed;
     text_length = strlen(typed);
     if (!done(TEXT)) return 0;
-    table_length = 3 * (size_t)number;
+    table_length = NODE_NUMBERS * (size_t)number;
     if (!done(SIMPLIFY)) return 0;
     memcpy(into, result, (size_t)number);
     return (size_t)number;
@@ -170,7 +167,7 @@ static void make_lists(void) {
 static void estimates(void) {
     static const int given[][2] = { { 0, 0 }, { 1, 0 }, { -3, 1 }, { 32767, 32767 }, { -32768, 0 }, { 2, -1 } };
     for (size_t i = 0; i < sizeof given / sizeof *given; i++) {
-        for (int v = 0; v < 8; v++) {
+        for (int v = 0; v < VARIABLES; v++) {
             readings[2 * v] = (uint8_t)((unsigned)given[i][0] & 255u);
             readings[2 * v + 1] = (uint8_t)((unsigned)given[i][0] >> 8 & 255u);
             tolerances[2 * v] = (uint8_t)((unsigned)given[i][1] & 255u);
@@ -191,7 +188,7 @@ static void with_sum(void) {
             done(PACK);
         }
     }
-    for (variable = 0; variable <= 8; variable++) done(SLOPE);
+    for (variable = 0; variable <= VARIABLES; variable++) done(SLOPE);
     for (int l = 0; l <= PAIRS; l++) {
         list = lists[l].bytes;
         list_length = lists[l].length;
@@ -215,7 +212,7 @@ static void with_text(const char *typed) {
 
 /* A text with as many brackets inside each other: what stands before each and after it, and what in the last one. */
 static void with_brackets(int deep, const char *before, const char *after, const char *last) {
-    char typed[1024] = "";
+    char typed[MOST_TEXT] = "";
     for (int i = 0; i < deep; i++) strcat(strcat(typed, before), "(");
     strcat(typed, last);
     for (int i = 0; i < deep; i++) strcat(strcat(typed, ")"), after);
@@ -237,13 +234,13 @@ static const char *const formulas[] = {
 };
 
 int main(void) {
-    static char longest[1025];
+    static char longest[MOST_TEXT + 1];
     int failed = 0;
 
     nothing = depth(call_nothing);
     make_lists();
     for (size_t i = 0; i < sizeof formulas / sizeof *formulas; i++) with_text(formulas[i]);
-    for (int deep = 15; deep <= 17; deep++) {
+    for (int deep = MOST_BRACKETS - 1; deep <= MOST_BRACKETS + 1; deep++) {
         with_brackets(deep, "", "", "a");
         with_brackets(deep, "-", "", "a");
         with_brackets(deep, "a+", "", "a*b^2");
@@ -253,19 +250,19 @@ int main(void) {
     }
     for (size_t i = 0; i + 1 < sizeof longest; i++) longest[i] = i % 2 == 0 ? 'a' : '+';
     with_text(longest);
-    longest[1023] = '\0';
+    longest[MOST_TEXT - 1] = '\0';
     with_text(longest);
-    longest[127] = '\0';
+    longest[2 * MOST_NODES - 1] = '\0';
     with_text(longest);
-    longest[63] = '\0';
+    longest[MOST_NODES - 1] = '\0';
     with_text(longest);
     /* no shape, nodes that break their rules, and no room */
     table[0] = 9;
-    for (table_length = 0; table_length <= 3; table_length++) done(SIMPLIFY);
-    room = 0;
+    for (table_length = 0; table_length <= NODE_NUMBERS; table_length++) done(SIMPLIFY);
+    no_room = 1;
     for (int f = 0; f < FUNCTIONS; f++) done(f);
-    room = REEVEBOOM_RESULT_BYTES;
-    count = 129;
+    no_room = 0;
+    count = MOST_TERMS + 1;
     done(PACK);
 
     for (int f = 0; f < FUNCTIONS; f++) {
@@ -274,7 +271,7 @@ int main(void) {
             printf("stack: %s takes more than include/reeveboom.h says\n", functions[f].name);
             failed = 1;
         }
-        if ((functions[f].wanted & ~functions[f].met) != 0) {
+        if (((functions[f].wanted | DONE | REFUSES(ROOM)) & ~functions[f].met) != 0) {
             printf("stack: %s has not given all of its answers here\n", functions[f].name);
             failed = 1;
         }
