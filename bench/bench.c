@@ -1,5 +1,6 @@
 /* Times the library beside plain C programs of the same rules, formula by formula and operation by operation: bench FORMULAS.
  * With more words, bench FORMULAS CONTESTANT OPERATION FORMULA CALLS, it only makes so many calls, for bench/count; the three in the middle are counted from 0.
+ * bench --operations prints the names of the operations.
  *
  * The contestants are the library, quick (plain.c) and, with -DOTHER, another program (other.h). All of them work in the same areas, which are lent again for
  * every call, as a router would lend them. Before an operation is timed, the contestants' numbers and every byte that they leave are compared: where two
@@ -7,14 +8,18 @@
  *
  * One batch is as many calls as take some 30 microseconds. In each of the rounds the contestants take turns, one batch each, so that whatever slows the machine
  * down for a while hits all of them; a contestant's time is the median of its rounds.
+ *
+ * A further operation is a row of ALL_OPERATIONS, and a function that prepares what it is given, if that is not there yet.
  */
 #define _POSIX_C_SOURCE 200809L
 #include <inttypes.h>
+#include <math.h>
 #include <stdio.h>
 #include <stdlib.h>
 #include <string.h>
 #include <time.h>
 
+#include "limits.h"
 #include "plain.h"
 #include "reeveboom.h"
 
@@ -27,10 +32,6 @@
 #endif
 
 enum { ROUNDS = 15, BATCH_NANOSECONDS = 30000, MOST_FORMULAS = 100, MOST_LINE = 2048 };
-
-enum { TEXT, UNPACK, PACK, SLOPE, SUBSTITUTE, ESTIMATE, OPERATIONS };
-
-static const char *const operation_names[OPERATIONS] = { "text+simplify", "unpack", "pack", "slope", "substitute", "estimate" };
 
 /* A formula, and what the operations are given for it. */
 typedef struct {
@@ -57,55 +58,112 @@ static const Formula *f; /* the one that is at hand */
 static _Alignas(64) Areas lent, kept;
 static uint8_t readings[REEVEBOOM_READING_BYTES], tolerances[REEVEBOOM_READING_BYTES];
 
+static void fail(const char *what, const char *which) {
+    fprintf(stderr, "bench: %s: %s\n", what, which);
+    exit(1);
+}
+
+/* ---- What the operations are given: slices with their lengths, and numbers. */
+
+#define TEXT (const uint8_t *)f->text, f->text_length
+#define SUM f->sum, f->sum_length
+#define LIST f->list, f->list_length
+#define TERMS f->patterns, REEVEBOOM_TERM_PLACES, f->coefficients, REEVEBOOM_TERM_PLACES
+#define READINGS readings, REEVEBOOM_READING_BYTES, tolerances, REEVEBOOM_READING_BYTES
+
+#define INTO_TABLE lent.table, REEVEBOOM_TABLE_PLACES
+#define INTO_TERMS lent.patterns, REEVEBOOM_TERM_PLACES, lent.coefficients, REEVEBOOM_TERM_PLACES
+#define INTO_RESULT lent.result, REEVEBOOM_RESULT_BYTES
+#define INTO_ANSWER lent.answer, REEVEBOOM_ANSWER_BYTES
+#define IN_WORK lent.work_patterns, REEVEBOOM_WORK_PLACES, lent.work_coefficients, REEVEBOOM_WORK_PLACES
+
+/* A typed formula as a packed sum. */
+static size_t packed(const char *text, uint8_t *result) {
+    uint64_t nodes = reeveboom_text((const uint8_t *)text, strlen(text), INTO_TABLE);
+    if (reeveboom_refusal(nodes)) fail("no formula", text);
+    uint64_t length = reeveboom_simplify(lent.table, NODE_NUMBERS * nodes, result, REEVEBOOM_RESULT_BYTES, IN_WORK);
+    if (reeveboom_refusal(length)) fail("refused", text);
+    return (size_t)length;
+}
+
+/* Prepares an operation for a formula, of which the text and the sum are there. Of its line a variable and the sum that is put for it are left. */
+typedef void Prepare(Formula *formula, uint64_t variable, const char *put);
+
+static void prepare_nothing(Formula *formula, uint64_t variable, const char *put) { (void)formula, (void)variable, (void)put; }
+
+static void prepare_terms(Formula *formula, uint64_t variable, const char *put) {
+    (void)variable, (void)put;
+    formula->terms = reeveboom_unpack(formula->sum, formula->sum_length, formula->patterns, REEVEBOOM_TERM_PLACES, formula->coefficients, REEVEBOOM_TERM_PLACES);
+}
+
+static void prepare_variable(Formula *formula, uint64_t variable, const char *put) {
+    (void)put;
+    formula->variable = variable;
+}
+
+static void prepare_list(Formula *formula, uint64_t variable, const char *put) {
+    formula->list[0] = 1;
+    formula->list[1] = (uint8_t)variable;
+    formula->list_length = 2 + packed(put, formula->list + 2);
+}
+
+/* ---- The operations, a row each: the name, as a word of C and as it is printed; what prepares it; and a call of it, where C is a contestant. */
+
+#define FIRST_OPERATIONS(ROW, C) \
+    ROW(C, text, "text+simplify", prepare_nothing, C##_simplify(lent.table, NODE_NUMBERS * C##_text(TEXT, INTO_TABLE), INTO_RESULT, IN_WORK)) \
+    ROW(C, unpack, "unpack", prepare_nothing, C##_unpack(SUM, INTO_TERMS)) \
+    ROW(C, pack, "pack", prepare_terms, C##_pack(f->terms, TERMS, INTO_RESULT)) \
+    ROW(C, slope, "slope", prepare_variable, C##_slope(SUM, f->variable, INTO_RESULT)) \
+    ROW(C, substitute, "substitute", prepare_list, C##_substitute(SUM, LIST, INTO_RESULT, IN_WORK)) \
+    ROW(C, estimate, "estimate", prepare_nothing, C##_estimate(SUM, READINGS, INTO_ANSWER))
+
+/* Those that another program (other.h) has to have too stand above, and those that it does not have would be further rows here. */
+#define ALL_OPERATIONS(ROW, C) FIRST_OPERATIONS(ROW, C)
+
+#define ROW_NAMES(C, operation, printed, prepare, call) { printed, prepare },
+
+static const struct {
+    const char *name;
+    Prepare *prepare;
+} operations[] = { ALL_OPERATIONS(ROW_NAMES, ) };
+
+enum { OPERATIONS = sizeof operations / sizeof *operations };
+
 /* ---- The contestants. Their batches are written out for each, so that nothing stands between the loop and the call. Each gives the number of its last call. */
-
-#define BATCH(prefix, name, body) \
-    static uint64_t prefix##_##name##_batch(long calls) { \
-        uint64_t number = 0; \
-        while (calls-- > 0) body; \
-        return number; \
-    }
-
-#define CONTESTANT(prefix) \
-    BATCH(prefix, text, { \
-        number = prefix##_text((const uint8_t *)f->text, f->text_length, lent.table, REEVEBOOM_TABLE_PLACES); \
-        number = prefix##_simplify(lent.table, 3 * number, lent.result, REEVEBOOM_RESULT_BYTES, lent.work_patterns, REEVEBOOM_WORK_PLACES, \
-                                   lent.work_coefficients, REEVEBOOM_WORK_PLACES); \
-    }) \
-    BATCH(prefix, unpack, number = prefix##_unpack(f->sum, f->sum_length, lent.patterns, REEVEBOOM_TERM_PLACES, lent.coefficients, REEVEBOOM_TERM_PLACES)) \
-    BATCH(prefix, pack, number = prefix##_pack(f->terms, f->patterns, REEVEBOOM_TERM_PLACES, f->coefficients, REEVEBOOM_TERM_PLACES, \
-                                               lent.result, REEVEBOOM_RESULT_BYTES)) \
-    BATCH(prefix, slope, number = prefix##_slope(f->sum, f->sum_length, f->variable, lent.result, REEVEBOOM_RESULT_BYTES)) \
-    BATCH(prefix, substitute, number = prefix##_substitute(f->sum, f->sum_length, f->list, f->list_length, lent.result, REEVEBOOM_RESULT_BYTES, \
-                                                           lent.work_patterns, REEVEBOOM_WORK_PLACES, lent.work_coefficients, REEVEBOOM_WORK_PLACES)) \
-    BATCH(prefix, estimate, number = prefix##_estimate(f->sum, f->sum_length, readings, REEVEBOOM_READING_BYTES, tolerances, REEVEBOOM_READING_BYTES, \
-                                                       lent.answer, REEVEBOOM_ANSWER_BYTES))
-
-#define BATCHES(prefix) \
-    { prefix##_text_batch, prefix##_unpack_batch, prefix##_pack_batch, prefix##_slope_batch, prefix##_substitute_batch, prefix##_estimate_batch }
-
-CONTESTANT(reeveboom)
-CONTESTANT(quick)
-#ifdef OTHER
-CONTESTANT(other)
-#endif
 
 typedef uint64_t Batch(long calls);
 
+#define BATCH(C, operation, printed, prepare, call) \
+    static uint64_t C##_##operation##_batch(long calls) { \
+        uint64_t number = 0; \
+        while (calls-- > 0) number = call; \
+        return number; \
+    }
+#define BATCH_NAME(C, operation, printed, prepare, call) C##_##operation##_batch,
+
+ALL_OPERATIONS(BATCH, reeveboom)
+ALL_OPERATIONS(BATCH, quick)
+#ifdef OTHER
+FIRST_OPERATIONS(BATCH, other)
+#endif
+
+/* A contestant without an operation has no batch for it. */
 static const struct {
     const char *name;
     Batch *batches[OPERATIONS];
 } contestants[] = {
-    { "library", BATCHES(reeveboom) },
-    { "quick", BATCHES(quick) },
+    { "library", { ALL_OPERATIONS(BATCH_NAME, reeveboom) } },
+    { "quick", { ALL_OPERATIONS(BATCH_NAME, quick) } },
 #ifdef OTHER
-    { "other", BATCHES(other) },
+    { "other", { FIRST_OPERATIONS(BATCH_NAME, other) } },
 #endif
 };
 
 enum { CONTESTANTS = sizeof contestants / sizeof *contestants };
 
-/* Nanoseconds for one call; the library's time over every other's; and the refusal, where the answer is one. */
+static int takes_part(int c, int operation) { return contestants[c].batches[operation] != NULL; }
+
+/* Nanoseconds for one call; the library's time over every other's; and the refusal, where the answer is one. Who does not take part has no number there. */
 typedef struct {
     double times[CONTESTANTS], ratios[CONTESTANTS];
     unsigned refusal;
@@ -115,33 +173,15 @@ static Row rows[OPERATIONS][MOST_FORMULAS];
 
 /* ---- The formulas. */
 
-static void fail(const char *what, const char *which) {
-    fprintf(stderr, "bench: %s: %s\n", what, which);
-    exit(1);
-}
-
-/* A typed formula as a packed sum. */
-static size_t packed(const char *text, uint8_t *result) {
-    uint64_t nodes = reeveboom_text((const uint8_t *)text, strlen(text), lent.table, REEVEBOOM_TABLE_PLACES);
-    if (reeveboom_refusal(nodes)) fail("no formula", text);
-    uint64_t length = reeveboom_simplify(lent.table, 3 * nodes, result, REEVEBOOM_RESULT_BYTES, lent.work_patterns, REEVEBOOM_WORK_PLACES,
-                                         lent.work_coefficients, REEVEBOOM_WORK_PLACES);
-    if (reeveboom_refusal(length)) fail("refused", text);
-    return (size_t)length;
-}
-
 static void read_line(char *line, Formula *formula) {
     const char *name = strtok(line, " \n"), *text = strtok(NULL, " \n"), *pair = strtok(NULL, " \n");
-    if (!pair || strlen(name) >= sizeof formula->name || pair[0] < 'a' || pair[0] > 'h' || strncmp(pair + 1, ":=", 2) != 0) fail("not a line of formulas", name);
+    if (!pair || strlen(name) >= sizeof formula->name || pair[0] < 'a' || pair[0] >= 'a' + VARIABLES || strncmp(pair + 1, ":=", 2) != 0)
+        fail("not a line of formulas", name);
     strcpy(formula->name, name);
     strcpy(formula->text, text);
     formula->text_length = strlen(text);
     formula->sum_length = packed(text, formula->sum);
-    formula->terms = reeveboom_unpack(formula->sum, formula->sum_length, formula->patterns, REEVEBOOM_TERM_PLACES, formula->coefficients, REEVEBOOM_TERM_PLACES);
-    formula->variable = (uint64_t)(pair[0] - 'a');
-    formula->list[0] = 1;
-    formula->list[1] = (uint8_t)formula->variable;
-    formula->list_length = 2 + packed(pair + 3, formula->list + 2);
+    for (int o = 0; o < OPERATIONS; o++) operations[o].prepare(formula, (uint64_t)(pair[0] - 'a'), pair + 3);
 }
 
 static int read_formulas(const char *path) {
@@ -164,13 +204,14 @@ static int read_formulas(const char *path) {
 static uint64_t compare(int operation) {
     uint64_t expected = 0;
     for (int c = 0; c < CONTESTANTS; c++) {
+        if (!takes_part(c, operation)) continue;
         memset(&lent, 0x55, sizeof lent);
         uint64_t number = contestants[c].batches[operation](1);
         if (c == 0) {
             expected = number;
             kept = lent;
         } else if (number != expected || memcmp(&lent, &kept, sizeof lent) != 0) {
-            fprintf(stderr, "bench: %s of %s: %s differs from the library\n", operation_names[operation], f->name, contestants[c].name);
+            fprintf(stderr, "bench: %s of %s: %s differs from the library\n", operations[operation].name, f->name, contestants[c].name);
             exit(1);
         }
     }
@@ -226,11 +267,11 @@ static void measure(int operation, Row *row) {
     long calls[CONTESTANTS];
     uint64_t number = compare(operation);
     row->refusal = reeveboom_refusal(number);
-    for (int c = 0; c < CONTESTANTS; c++) calls[c] = calibrate(contestants[c].batches[operation]);
+    for (int c = 0; c < CONTESTANTS; c++) calls[c] = takes_part(c, operation) ? calibrate(contestants[c].batches[operation]) : 0;
     for (int round = 0; round < ROUNDS; round++) {
         for (int turn = 0; turn < CONTESTANTS; turn++) {
             int c = (turn + round) % CONTESTANTS;
-            times[c][round] = time_batch(contestants[c].batches[operation], calls[c]) / (double)calls[c];
+            times[c][round] = calls[c] ? time_batch(contestants[c].batches[operation], calls[c]) / (double)calls[c] : NAN;
         }
     }
     for (int c = 0; c < CONTESTANTS; c++) {
@@ -261,7 +302,7 @@ static void print_machine(int count) {
     printf("flags     " BENCH_FLAGS "\n");
     printf("method    %d formulas; medians of %d rounds, with batches of some %d microseconds\n", count, ROUNDS, BATCH_NANOSECONDS / 1000);
     printf("readings ");
-    for (int v = 0; v < 8; v++) printf(" %c=%d", 'a' + v, (int8_t)readings[2 * v]);
+    for (int v = 0; v < VARIABLES; v++) printf(" %c=%d", 'a' + v, (int8_t)readings[2 * v]);
     printf(", tolerances 1\n");
 }
 
@@ -281,7 +322,7 @@ static void ratios_of(int operation, int count, int c, double *middle, double *l
 }
 
 static void print_table(int operation, int count) {
-    printf("\n%s, nanoseconds\n", operation_names[operation]);
+    printf("\n%s, nanoseconds\n", operations[operation].name);
     print_head("");
     for (int i = 0; i < count; i++) {
         const Row *row = &rows[operation][i];
@@ -303,7 +344,7 @@ static void print_summary(int count) {
     for (int c = 1; c < CONTESTANTS; c++) printf("  library/%-6s median largest", contestants[c].name);
     printf("\n");
     for (int o = 0; o < OPERATIONS; o++) {
-        printf("%-15s", operation_names[o]);
+        printf("%-15s", operations[o].name);
         for (int c = 1; c < CONTESTANTS; c++) {
             double middle, largest;
             ratios_of(o, count, c, &middle, &largest);
@@ -316,25 +357,33 @@ static void print_summary(int count) {
 /* So many calls of one operation, and nothing else. */
 static int only(int count, char **words) {
     int c = atoi(words[0]), operation = atoi(words[1]), formula = atoi(words[2]);
-    if (c < 0 || c >= CONTESTANTS || operation < 0 || operation >= OPERATIONS || formula < 0 || formula >= count) return 2;
+    if (c < 0 || c >= CONTESTANTS || operation < 0 || operation >= OPERATIONS || formula < 0 || formula >= count || !takes_part(c, operation)) return 2;
     f = &formulas[formula];
     contestants[c].batches[operation](atol(words[3]));
     return 0;
 }
 
-int main(int argc, char **argv) {
-    if (argc != 2 && argc != 6) {
-        fprintf(stderr, "usage: bench FORMULAS [CONTESTANT OPERATION FORMULA CALLS]\n");
-        return 2;
-    }
-    int count = read_formulas(argv[1]);
-    if (count == 0) fail("no formulas", argv[1]);
-    for (int v = 0; v < 8; v++) {
+static void set_readings(void) {
+    for (int v = 0; v < VARIABLES; v++) {
         int reading = v % 2 ? -(3 + v) : 3 + v;
         readings[2 * v] = (uint8_t)(reading & 255);
         readings[2 * v + 1] = (uint8_t)(reading >> 8 & 255);
         tolerances[2 * v] = 1;
     }
+}
+
+int main(int argc, char **argv) {
+    if (argc != 2 && argc != 6) {
+        fprintf(stderr, "usage: bench FORMULAS [CONTESTANT OPERATION FORMULA CALLS] | bench --operations\n");
+        return 2;
+    }
+    if (strcmp(argv[1], "--operations") == 0) {
+        for (int o = 0; o < OPERATIONS; o++) printf("%s\n", operations[o].name);
+        return 0;
+    }
+    int count = read_formulas(argv[1]);
+    if (count == 0) fail("no formulas", argv[1]);
+    set_readings();
     if (argc == 6) return only(count, argv + 2);
     print_machine(count);
     for (int o = 0; o < OPERATIONS; o++) {

@@ -9,12 +9,13 @@
 
 #include "outside.h"
 
-static const char *letters[] = { "a", "b", "c", "d", "e", "f", "g", "h" };
+static char names[REEVEBOOM_VARIABLES][2];
+static const char *letters[REEVEBOOM_VARIABLES];
 static fmpz_mpoly_ctx_t ctx;
-static fmpz_mpoly_t sum, signless, result, putting[8];
-static fmpz_mpoly_struct *put[8];
-static fmpz numbers[3][8], value;
-static fmpz *at[3][8]; /* the readings, these without signs, the raised ones */
+static fmpz_mpoly_t sum, signless, result, putting[REEVEBOOM_VARIABLES];
+static fmpz_mpoly_struct *put[REEVEBOOM_VARIABLES];
+static fmpz numbers[3][REEVEBOOM_VARIABLES], value;
+static fmpz *at[3][REEVEBOOM_VARIABLES]; /* the readings, these without signs, the raised ones */
 static Line line;
 
 static void text(void) {
@@ -33,6 +34,10 @@ static void estimate(void) {
     if (!done) exit(1);
 }
 
+static const Timed timed[] = { { "text", text }, { "slope", slope }, { "substitute", substitute }, { "estimate", estimate } };
+
+enum { TIMED = sizeof timed / sizeof *timed };
+
 /* Sets up what the operations need for a line. */
 static void prepare(void) {
     fmpz_t coefficient;
@@ -45,18 +50,20 @@ static void prepare(void) {
         fmpz_mpoly_set_term_coeff_fmpz(signless, i, coefficient, ctx);
     }
     fmpz_clear(coefficient);
-    for (int v = 0; v < 8; v++) fmpz_mpoly_gen(putting[v], v, ctx);
+    for (int v = 0; v < REEVEBOOM_VARIABLES; v++) fmpz_mpoly_gen(putting[v], v, ctx);
     if (fmpz_mpoly_set_str_pretty(putting[line.variable], line.put, letters, ctx) != 0) exit(1);
 }
 
 static void set_up(void) {
-    fmpz_mpoly_ctx_init(ctx, 8, ORD_DEGLEX);
+    fmpz_mpoly_ctx_init(ctx, REEVEBOOM_VARIABLES, ORD_DEGLEX);
     fmpz_mpoly_init(sum, ctx);
     fmpz_mpoly_init(signless, ctx);
     fmpz_mpoly_init(result, ctx);
     fmpz_init(&value);
-    for (int v = 0; v < 8; v++) {
+    for (int v = 0; v < REEVEBOOM_VARIABLES; v++) {
         int size = reading(v) < 0 ? -reading(v) : reading(v);
+        names[v][0] = (char)('a' + v);
+        letters[v] = names[v];
         fmpz_mpoly_init(putting[v], ctx);
         put[v] = putting[v];
         for (int i = 0; i < 3; i++) {
@@ -71,11 +78,10 @@ int main(int argc, char **argv) {
     FILE *file = argc == 2 ? fopen(argv[1], "r") : NULL;
     if (!file) return 2;
     set_up();
-    print_head("FLINT " FLINT_VERSION);
+    print_head("FLINT " FLINT_VERSION, timed, TIMED);
     while (read_line(buffer, file, &line)) {
         prepare();
-        printf("%-14s%8ld%14.1f%14.1f%14.1f%14.1f\n", line.name, (long)fmpz_mpoly_length(sum, ctx), measure(text), measure(slope), measure(substitute),
-               measure(estimate));
+        print_times(line.name, (long)fmpz_mpoly_length(sum, ctx), timed, TIMED);
     }
     fclose(file);
     return 0;

@@ -10,7 +10,7 @@
 using namespace GiNaC;
 
 static symtab letters;
-static symbol variables[8];
+static symbol variables[REEVEBOOM_VARIABLES];
 static exmap at[3]; // the readings, these without signs, the raised ones
 static ex sum, signless, put, result;
 static Line line;
@@ -29,6 +29,10 @@ static void estimate() {
     result = signless.subs(at[1]);
     result = signless.subs(at[2]);
 }
+
+static const Timed timed[] = { { "text", text }, { "slope", slope }, { "substitute", substitute }, { "estimate", estimate } };
+
+enum { TIMED = sizeof timed / sizeof *timed };
 
 // A term with the size of its coefficient.
 static ex without_sign(const ex &term) {
@@ -50,7 +54,7 @@ static size_t prepare() {
 }
 
 static void set_up() {
-    for (int v = 0; v < 8; v++) {
+    for (int v = 0; v < REEVEBOOM_VARIABLES; v++) {
         int size = abs(reading(v));
         variables[v] = symbol(std::string(1, char('a' + v)));
         letters[variables[v].get_name()] = variables[v];
@@ -67,10 +71,10 @@ int main(int argc, char **argv) {
     set_up();
     char title[32];
     snprintf(title, sizeof title, "GiNaC %d.%d.%d", GINACLIB_MAJOR_VERSION, GINACLIB_MINOR_VERSION, GINACLIB_MICRO_VERSION);
-    print_head(title);
+    print_head(title, timed, TIMED);
     while (read_line(buffer, file, &line)) {
         size_t terms = prepare();
-        printf("%-14s%8zu%14.1f%14.1f%14.1f%14.1f\n", line.name, terms, measure(text), measure(slope), measure(substitute), measure(estimate));
+        print_times(line.name, (long)terms, timed, TIMED);
     }
     fclose(file);
     return 0;

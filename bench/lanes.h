@@ -7,11 +7,14 @@
 
 #define INLINE static inline __attribute__((always_inline))
 
+/* How many marks are looked at at once. */
+enum { MARK_BLOCK = 16 };
+
 #if defined __SSE2__
 
 #include <emmintrin.h>
 
-/* Eight bytes side by side. */
+/* The bytes of a word side by side. */
 typedef __m128i Lanes;
 
 INLINE Lanes lanes_of(uint64_t word) { return _mm_cvtsi64_si128((long long)word); }
@@ -28,8 +31,8 @@ INLINE int strides_added(uint64_t word, const int16_t *strides) {
     return _mm_cvtsi128_si32(parts);
 }
 
-/* Sixteen marks, each 0 or 1, as sixteen bits. */
-INLINE unsigned sixteen_marks(const uint8_t *marks) {
+/* A block of marks, each 0 or 1, as so many bits. */
+INLINE unsigned block_of_marks(const uint8_t *marks) {
     return (unsigned)_mm_movemask_epi8(_mm_slli_epi16(_mm_loadu_si128((const __m128i *)marks), 7));
 }
 
@@ -66,14 +69,14 @@ INLINE int strides_added(uint64_t word, const int16_t *strides) {
     return vaddvq_s32(vmlal_high_s16(vmull_s16(vget_low_s16(bytes), vget_low_s16(by)), bytes, by));
 }
 
-/* Byte i of eight goes to bit 56 + i of the product, and no two bits meet on the way. */
-INLINE unsigned eight_marks(const uint8_t *marks) {
+/* Byte i of the word goes to bit 56 + i of the product, and no two bits meet on the way. */
+INLINE unsigned word_of_marks(const uint8_t *marks) {
     uint64_t word;
     memcpy(&word, marks, sizeof word);
     return (unsigned)(word * UINT64_C(0x0102040810204080) >> 56);
 }
 
-INLINE unsigned sixteen_marks(const uint8_t *marks) { return eight_marks(marks) | eight_marks(marks + 8) << 8; }
+INLINE unsigned block_of_marks(const uint8_t *marks) { return word_of_marks(marks) | word_of_marks(marks + 8) << 8; }
 
 /* Here to write costs less than to look: a whole line becomes zero at once. */
 static void leave_zero(char *area, int bytes) { memset(area, 0, (size_t)bytes); }

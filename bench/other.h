@@ -2,7 +2,7 @@
  *
  * It has to have the functions declared here. They take the lent areas of their namesakes in reeveboom.h, some in another order, and a refusal comes back
  * as refusal x 65536 + place from every one of them. Below, each is brought to the order and the numbers of reeveboom.h. That is inline, so it costs nothing
- * when it is timed.
+ * when it is timed. An operation that is not declared here is not asked of it.
  */
 #ifndef OTHER_H
 #define OTHER_H

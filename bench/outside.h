@@ -7,6 +7,8 @@
 #include <string.h>
 #include <time.h>
 
+#include "reeveboom.h"
+
 enum { ROUNDS = 15, BATCH_NANOSECONDS = 30000, MOST_LINE = 2048 };
 
 /* A line of the formulas: a formula, and the variable and the typed sum of its pair. */
@@ -60,8 +62,22 @@ static inline double measure(void (*call)(void)) {
     return times[ROUNDS / 2];
 }
 
-static inline void print_head(const char *system) {
-    printf("\n%s, nanoseconds\n%-14s%8s%14s%14s%14s%14s\n", system, "", "terms", "text", "slope", "substitute", "estimate");
+/* An operation that a system has too: its name in the table, and a call of it on the line at hand. */
+typedef struct {
+    const char *name;
+    void (*call)(void);
+} Timed;
+
+static inline void print_head(const char *system, const Timed *timed, int count) {
+    printf("\n%s, nanoseconds\n%-14s%8s", system, "", "terms");
+    for (int i = 0; i < count; i++) printf("%14s", timed[i].name);
+    printf("\n");
+}
+
+static inline void print_times(const char *name, long terms, const Timed *timed, int count) {
+    printf("%-14s%8ld", name, terms);
+    for (int i = 0; i < count; i++) printf("%14.1f", measure(timed[i].call));
+    printf("\n");
 }
 
 #endif

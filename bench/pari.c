@@ -8,8 +8,8 @@
 
 #include "outside.h"
 
-static GEN sum, signless, put, numbers[3][8]; /* the readings, these without signs, the raised ones */
-static long variables[8];
+static GEN sum, signless, put, numbers[3][REEVEBOOM_VARIABLES]; /* the readings, these without signs, the raised ones */
+static long variables[REEVEBOOM_VARIABLES];
 static Line line;
 
 /* What an operation makes is thrown away. */
@@ -21,7 +21,7 @@ static Line line;
     }
 
 static GEN value(GEN x, int i) {
-    for (int v = 0; v < 8; v++) x = gsubst(x, variables[v], numbers[i][v]);
+    for (int v = 0; v < REEVEBOOM_VARIABLES; v++) x = gsubst(x, variables[v], numbers[i][v]);
     return x;
 }
 
@@ -29,6 +29,10 @@ THROWN(text, gp_read_str(line.text))
 THROWN(slope, deriv(sum, variables[line.variable]))
 THROWN(substitute, gsubst(sum, variables[line.variable], put))
 THROWN(estimate, (value(sum, 0), value(signless, 1), value(signless, 2)))
+
+static const Timed timed[] = { { "text", text }, { "slope", slope }, { "substitute", substitute }, { "estimate", estimate } };
+
+enum { TIMED = sizeof timed / sizeof *timed };
 
 /* A polynomial with absolute coefficients, and the number of its terms. */
 static GEN without_signs(GEN x, long *terms) {
@@ -55,7 +59,7 @@ static long prepare(void) {
 
 static void set_up(void) {
     pari_init(64000000, 2);
-    for (int v = 0; v < 8; v++) {
+    for (int v = 0; v < REEVEBOOM_VARIABLES; v++) {
         char letter[2] = { (char)('a' + v), 0 };
         int size = reading(v) < 0 ? -reading(v) : reading(v);
         variables[v] = fetch_user_var(letter);
@@ -71,10 +75,10 @@ int main(int argc, char **argv) {
     GEN version = pari_version();
     char system[64];
     snprintf(system, sizeof system, "PARI %ld.%ld.%ld", itos(gel(version, 1)), itos(gel(version, 2)), itos(gel(version, 3)));
-    print_head(system);
+    print_head(system, timed, TIMED);
     while (read_line(buffer, file, &line)) {
         long terms = prepare();
-        printf("%-14s%8ld%14.1f%14.1f%14.1f%14.1f\n", line.name, terms, measure(text), measure(slope), measure(substitute), measure(estimate));
+        print_times(line.name, terms, timed, TIMED);
     }
     fclose(file);
     return 0;

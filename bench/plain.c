@@ -13,17 +13,12 @@
 #include <string.h>
 
 #include "lanes.h"
+#include "limits.h"
 #include "reeveboom.h"
 
-enum {
-    MOST_TERMS = REEVEBOOM_TERM_PLACES,
-    MOST_NODES = 64,
-    MOST_DEGREE = 60,
-    MOST_TEXT = 1024,
-    MOST_BRACKETS = 16,
-    MOST_PAIRS = 8,
-    SLOTS = 4096
-};
+enum { LAST_VARIABLE = VARIABLES - 1, KEY_BYTES = sizeof(uint64_t), SLOTS = 4096 };
+
+_Static_assert(VARIABLES == sizeof(uint64_t), "a key has a byte for the degree, and one for every variable but the last");
 
 #define MOST_WEIGHT (UINT64_C(1) << 62)
 #define EACH_BYTE UINT64_C(0x0101010101010101)
@@ -126,12 +121,12 @@ INLINE size_t take_groups(const uint8_t *at, uint64_t *number) {
 INLINE bool take_term(Reader *r, Before *before, uint64_t *code, uint64_t *exponents, uint64_t *key) {
     const uint8_t *at = r->bytes + r->place;
     size_t left = r->length - r->place, groups = 1;
-    if (left < 9) return false;
+    if (left < 1 + VARIABLES) return false;
     *code = at[0];
     if (*code >= 128) {
         if (left < 10) return false;
         groups = take_groups(at, code);
-        if (groups == 0 || left < groups + 8) return false;
+        if (groups == 0 || left < groups + VARIABLES) return false;
     }
     *exponents = load(at + groups);
     uint64_t degree = bytes_added(*exponents);
@@ -141,7 +136,7 @@ INLINE bool take_term(Reader *r, Before *before, uint64_t *code, uint64_t *expon
     if ((*code == 0) | (total > MOST_WEIGHT) | (degree > MOST_DEGREE) | (*key >= before->last)) return false;
     before->total = total;
     before->last = *key;
-    r->place += groups + 8;
+    r->place += groups + VARIABLES;
     return true;
 }
 
@@ -152,7 +147,7 @@ static size_t term_fault(Reader r, Before before) {
     size_t fault = read_number(&r, &code);
     if (fault != NO_FAULT) return fault;
     if (code == 0 || before.total + (code >> 1) + (code & 1) > MOST_WEIGHT) return start;
-    for (int v = 0; v < 8; v++) {
+    for (int v = 0; v < VARIABLES; v++) {
         size_t place = r.place;
         fault = read_number(&r, &exponent);
         if (fault != NO_FAULT) return fault;
@@ -225,10 +220,10 @@ INLINE uint8_t *put_term(uint8_t *out, uint64_t code, uint64_t exponents) {
         out += code >> 63 ? 10 : 9;
     }
     store(out, exponents);
-    return out + 8;
+    return out + VARIABLES;
 }
 
-/* The count takes two bytes if it is 128. */
+/* The count takes two bytes if it is the largest. */
 INLINE uint8_t *put_count(uint8_t *out, uint64_t terms) {
     *out++ = (uint8_t)terms;
     if (terms == MOST_TERMS) *out++ = 1;
@@ -268,7 +263,7 @@ uint64_t quick_slope(const uint8_t *sum, size_t sum_length,
     if (result_length < REEVEBOOM_RESULT_BYTES) return refuse(REEVEBOOM_ROOM, 0);
     size_t fault = read_count(&r, MOST_TERMS, &terms);
     if (fault != NO_FAULT) return refuse(REEVEBOOM_SUM, fault);
-    unsigned shift = 8 * (unsigned)(variable & 7);
+    unsigned shift = 8 * (unsigned)(variable % VARIABLES);
     for (uint64_t i = 0; i < terms; i++) {
         uint64_t code, exponents, key;
         if (!take_term(&r, &before, &code, &exponents, &key)) return refuse(REEVEBOOM_SUM, term_fault(r, before));
@@ -281,7 +276,7 @@ uint64_t quick_slope(const uint8_t *sum, size_t sum_length,
         kept += power != 0;
     }
     if (r.place < sum_length) return refuse(REEVEBOOM_SUM, r.place);
-    if (variable > 7) return refuse(REEVEBOOM_VARIABLE, 0);
+    if (variable >= VARIABLES) return refuse(REEVEBOOM_VARIABLE, 0);
     if (weight > MOST_WEIGHT) return refuse(REEVEBOOM_WEIGHT, 0);
     uint8_t *start = put_count(result, kept);
     memcpy(start, packed, (size_t)(out - packed));
@@ -296,8 +291,8 @@ typedef struct {
 } Power;
 
 typedef struct {
-    Power powers[8][MOST_DEGREE + 1];
-    unsigned shifts[8]; /* where the exponents of the variables stand that occur at all */
+    Power powers[VARIABLES][MOST_DEGREE + 1];
+    unsigned shifts[VARIABLES]; /* where the exponents of the variables stand that occur at all */
     int used;
     uint64_t largest; /* of their raised readings, or more */
 } Powers;
@@ -316,7 +311,7 @@ static void raise_readings(Powers *p, const uint64_t *patterns, uint64_t terms, 
     uint64_t exponents = word_of(most);
     p->used = 0;
     p->largest = 1;
-    for (int v = 0; v < 8; v++) {
+    for (int v = 0; v < VARIABLES; v++) {
         unsigned largest = exponents >> (8 * v) & 255;
         if (largest == 0) continue;
         uint64_t reading = (uint64_t)number_at(readings, v), raised = size_of((int64_t)reading) + (uint64_t)number_at(tolerances, v);
@@ -364,7 +359,7 @@ uint64_t quick_estimate(const uint8_t *sum, size_t sum_length,
     size_t fault = read_whole(sum, sum_length, AS_BYTES, patterns, coefficients, &terms);
     if (fault != NO_FAULT) return (REEVEBOOM_SUM << 16) + fault;
     if (readings_length != REEVEBOOM_READING_BYTES || tolerances_length != REEVEBOOM_READING_BYTES) return REEVEBOOM_READING << 16;
-    for (int v = 0; v < 8; v++) {
+    for (int v = 0; v < VARIABLES; v++) {
         if (tolerances[2 * v + 1] >= 128) return (REEVEBOOM_READING << 16) + (uint64_t)v;
     }
     raise_readings(&p, patterns, terms, readings, tolerances);
@@ -382,7 +377,7 @@ uint64_t quick_estimate(const uint8_t *sum, size_t sum_length,
 typedef struct {
     const uint8_t *at, *end;
     int64_t nodes;
-    int64_t table[3 * (MOST_NODES + 1)];
+    int64_t table[NODE_NUMBERS * (MOST_NODES + 1)];
 } Text;
 
 /* A sum that is not at its end: its nodes so far, -1 where there is none yet. */
@@ -394,7 +389,7 @@ typedef struct {
 enum { INTEGER, VARIABLE, SUM, PRODUCT, POWER };
 
 INLINE int64_t add_node(Text *t, int64_t kind, int64_t first, int64_t second) {
-    int64_t *node = t->table + 3 * (t->nodes < MOST_NODES ? t->nodes : MOST_NODES);
+    int64_t *node = t->table + NODE_NUMBERS * (t->nodes < MOST_NODES ? t->nodes : MOST_NODES);
     node[0] = kind;
     node[1] = first;
     node[2] = second;
@@ -449,7 +444,7 @@ INLINE void end_term(Text *t, Level *level) {
 INLINE bool read_atom(Text *t, int64_t *node) {
     unsigned letter = next_byte(t) - 'a';
     uint64_t number;
-    if (letter < 8) {
+    if (letter < VARIABLES) {
         t->at++;
         *node = add_node(t, VARIABLE, letter, 0);
         return true;
@@ -498,7 +493,7 @@ uint64_t quick_text(const uint8_t *text, size_t text_length,
     t.nodes = 0;
     if (!read_formula(&t)) return refuse(REEVEBOOM_TEXT, (uint64_t)(t.at - text));
     if (t.nodes > MOST_NODES) return refuse(REEVEBOOM_NODES, 0);
-    memcpy(table, t.table, 3 * (size_t)t.nodes * sizeof *table);
+    memcpy(table, t.table, NODE_NUMBERS * (size_t)t.nodes * sizeof *table);
     return (uint64_t)t.nodes;
 }
 
@@ -621,13 +616,13 @@ static bool add_sums(Scratch *s, const Sum *a, const Sum *b, Sum *to) {
 
 /* The least and the largest of every byte of some keys, and whether h occurs. */
 typedef struct {
-    uint8_t low[8], high[8];
+    uint8_t low[KEY_BYTES], high[KEY_BYTES];
     bool h;
 } Range;
 
 /* How far apart in a box two patterns are that differ by one in one byte of the key. */
 typedef struct {
-    int16_t strides[8];
+    int16_t strides[KEY_BYTES];
     int offset, slots;
 } Box;
 
@@ -647,7 +642,7 @@ static void range_of(const uint64_t *keys, int terms, Range *range) {
 /* The range of the products of one range and the k-th powers of another. */
 static Range product_range(const Range *a, const Range *b, int k) {
     Range c;
-    for (int i = 0; i < 8; i++) {
+    for (int i = 0; i < KEY_BYTES; i++) {
         c.low[i] = (uint8_t)(a->low[i] + k * b->low[i]);
         c.high[i] = (uint8_t)(a->high[i] + k * b->high[i]);
     }
@@ -661,7 +656,7 @@ static bool lay_out(Box *box, const Range *range) {
     bool told = range->h;
     box->slots = 1;
     box->offset = 0;
-    for (int i = 0; i < 8; i++) {
+    for (int i = 0; i < KEY_BYTES; i++) {
         int places = range->high[i] - range->low[i] + 1;
         bool needed = places > 1 && told;
         told = told || places > 1;
@@ -680,7 +675,7 @@ static void find_slots(const Box *box, const Sum *sum, int offset, int *slots) {
 
 /* Slots are cleared when they are first needed, and after that by whoever empties them. */
 static void make_clean(Dense *d, int slots) {
-    slots = (slots + 15) & -16; /* Marks are looked at sixteen at once. */
+    slots = (slots + MARK_BLOCK - 1) & -MARK_BLOCK; /* Marks are looked at in blocks. */
     if (slots <= d->clean) return;
     memset(d->coefficients + d->clean, 0, (size_t)(slots - d->clean) * sizeof *d->coefficients);
     memset(d->marks + d->clean, 0, (size_t)(slots - d->clean));
@@ -703,13 +698,13 @@ static void fill(Dense *restrict d, const Sum *a, const int *restrict a_slots, c
     }
 }
 
-/* Empties the slots, from `top` down, into a sum, and tells where its terms stood. Returns false if more than 128 patterns were met. */
+/* Empties the slots, from `top` down, into a sum, and tells where its terms stood. Returns false if more patterns were met than a sum may have. */
 static bool empty(Dense *d, int top, Sum *to, int *to_slots) {
     int met = 0, terms = 0;
-    for (int block = top & -16; block >= 0; block -= 16) {
-        unsigned mask = sixteen_marks(d->marks + block);
+    for (int block = top & -MARK_BLOCK; block >= 0; block -= MARK_BLOCK) {
+        unsigned mask = block_of_marks(d->marks + block);
         if (mask == 0) continue;
-        memset(d->marks + block, 0, 16);
+        memset(d->marks + block, 0, MARK_BLOCK);
         do {
             int bit = 31 - __builtin_clz(mask), slot = block + bit;
             mask ^= 1u << bit;
@@ -725,7 +720,7 @@ static bool empty(Dense *d, int top, Sum *to, int *to_slots) {
     return true;
 }
 
-/* ---- Products and powers. Each returns false if its spread is above 128. */
+/* ---- Products and powers. Each returns false if its spread is too large. */
 
 /* A box pays if it is not much larger than the work that is done in it: the pairs of terms. */
 static bool pays(const Box *box, int pairs) { return box->slots <= 16 * pairs; }
@@ -867,7 +862,7 @@ static bool well_formed(const int64_t *row, uint64_t index) {
     uint64_t first = (uint64_t)row[1], second = (uint64_t)row[2];
     switch (row[0]) {
     case INTEGER: return second == 0;
-    case VARIABLE: return first < 8 && second == 0;
+    case VARIABLE: return first < VARIABLES && second == 0;
     case SUM:
     case PRODUCT: return first < index && second < index;
     case POWER: return first < index && second <= MOST_DEGREE;
@@ -909,7 +904,7 @@ static void judge(const Forest *f, const int64_t *row, Node *node) {
 }
 
 /* The key of one variable. */
-static uint64_t key_of(unsigned variable) { return ONE_DEGREE | (variable < 7 ? UINT64_C(1) << (48 - 8 * variable) : 0); }
+static uint64_t key_of(unsigned variable) { return ONE_DEGREE | (variable < LAST_VARIABLE ? UINT64_C(1) << (48 - 8 * variable) : 0); }
 
 /* The ordered sum of a node whose degree and weight are within the limits. */
 static bool form(Forest *f, const int64_t *row, Sum *sum) {
@@ -925,7 +920,7 @@ static bool form(Forest *f, const int64_t *row, Sum *sum) {
 
 static uint64_t simplify(Forest *f, const int64_t *table, size_t nodes, uint8_t *result) {
     for (size_t i = 0; i < nodes; i++) {
-        const int64_t *row = table + 3 * i;
+        const int64_t *row = table + NODE_NUMBERS * i;
         Node *node = &f->nodes[i];
         if (!well_formed(row, i)) return refuse(REEVEBOOM_NODE, i);
         judge(f, row, node);
@@ -945,16 +940,16 @@ uint64_t quick_simplify(const int64_t *table, size_t table_length,
     if (result_length < REEVEBOOM_RESULT_BYTES || patterns_length < REEVEBOOM_WORK_PLACES || coefficients_length < REEVEBOOM_WORK_PLACES)
         return refuse(REEVEBOOM_ROOM, 0);
     uint64_t number = refuse(REEVEBOOM_SHAPE, 0);
-    if (table_length % 3 == 0 && table_length > 0 && table_length <= 3 * MOST_NODES) {
+    if (table_length % NODE_NUMBERS == 0 && table_length > 0 && table_length <= NODE_NUMBERS * MOST_NODES) {
         Forest f;
         f.patterns = patterns;
         f.coefficients = coefficients;
         f.used = 0;
         f.scratch.dense.clean = 0;
-        number = simplify(&f, table, table_length / 3, result);
+        number = simplify(&f, table, table_length / NODE_NUMBERS, result);
     }
-    leave_zero((char *)patterns, 8 * REEVEBOOM_WORK_PLACES);
-    leave_zero((char *)coefficients, 8 * REEVEBOOM_WORK_PLACES);
+    leave_zero((char *)patterns, REEVEBOOM_WORK_PLACES * sizeof *patterns);
+    leave_zero((char *)coefficients, REEVEBOOM_WORK_PLACES * sizeof *coefficients);
     return number;
 }
 
@@ -992,7 +987,7 @@ static uint64_t read_list(Change *c, const uint8_t *list, size_t length, uint64_
         size_t start = r.place;
         fault = read_number(&r, &variable);
         if (fault != NO_FAULT) return refuse(REEVEBOOM_LIST, fault);
-        if (variable > 7) return refuse(REEVEBOOM_VARIABLE, start);
+        if (variable >= VARIABLES) return refuse(REEVEBOOM_VARIABLE, start);
         fault = read_sum(&r, AS_KEY, pair->room.keys, pair->room.coefficients, &terms);
         if (fault != NO_FAULT) return refuse(REEVEBOOM_LIST, fault);
         pair->variable = (unsigned)variable;
@@ -1007,7 +1002,7 @@ static unsigned judge_pair(Change *c, const Pair *pair) {
     Wide total = 0;
     c->largest = 0;
     for (int i = 0; i < c->sum.terms; i++) {
-        uint64_t key = c->sum.keys[i], k = pair->variable < 7 ? key >> (48 - 8 * pair->variable) & 255 : power_of_h(key);
+        uint64_t key = c->sum.keys[i], k = pair->variable < LAST_VARIABLE ? key >> (48 - 8 * pair->variable) & 255 : power_of_h(key);
         uint64_t now = (key >> 56) - k + k * degree;
         c->exponents[i] = (uint8_t)k;
         c->largest = k > c->largest ? (unsigned)k : c->largest;
@@ -1076,7 +1071,7 @@ static bool groups_fit_box(const Change *c, const Sum *sum, Box *box) {
         if (group.terms == 0 || c->powers[k].terms == 0) continue;
         range_of(group.keys, group.terms, &range);
         range = product_range(&range, &of_sum, (int)k);
-        for (int i = 0; i < 8; i++) {
+        for (int i = 0; i < KEY_BYTES; i++) {
             all.low[i] = range.low[i] < all.low[i] ? range.low[i] : all.low[i];
             all.high[i] = range.high[i] > all.high[i] ? range.high[i] : all.high[i];
         }
@@ -1141,7 +1136,7 @@ uint64_t quick_substitute(const uint8_t *sum, size_t sum_length,
     c.coefficients = coefficients;
     c.scratch.dense.clean = 0;
     uint64_t number = substitute(&c, sum, sum_length, list, list_length, result);
-    leave_zero((char *)patterns, 8 * REEVEBOOM_WORK_PLACES);
-    leave_zero((char *)coefficients, 8 * REEVEBOOM_WORK_PLACES);
+    leave_zero((char *)patterns, REEVEBOOM_WORK_PLACES * sizeof *patterns);
+    leave_zero((char *)coefficients, REEVEBOOM_WORK_PLACES * sizeof *coefficients);
     return number;
 }

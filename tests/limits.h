@@ -1,4 +1,4 @@
-/* The limits of the rules that the tests reach, and that include/reeveboom.h has no names for. */
+/* The limits of the rules that include/reeveboom.h has no names for: the tests reach them, and the benchmark's programs keep them. */
 #ifndef LIMITS_H
 #define LIMITS_H
 
