@@ -1,19 +1,20 @@
 //! Slope and substitute of 01.
 
-use crate::packed::{read_sum, write_result, Reader, RESULT_ROOM};
+use crate::packed::{read_sum, write_result, Reader, MOST_PACKED};
 use crate::refusals::{refuse, Answer, Refused, DEGREE, LIST, ROOM, SPREAD, VARIABLE, WEIGHT};
 use crate::sums::{product_of, raised_weight, Gathered, Pattern, Sum, Term};
-use crate::sums::{LARGEST_DEGREE, LARGEST_WEIGHT, LETTERS};
+use crate::sums::{LARGEST_DEGREE, LARGEST_WEIGHT, VARIABLES};
 use crate::table::WORK_ROOM;
 
-pub const MOST_PAIRS: u64 = 8;
+/// 01 gives this number beside that of the variables, and does not say that the one follows from the other.
+pub const MOST_PAIRS: usize = 8;
 
 pub fn slope(bytes: &[u8], variable: u64, result: &mut [u8]) -> Answer {
-    if result.len() < RESULT_ROOM {
+    if result.len() < MOST_PACKED {
         return refuse(ROOM, 0);
     }
     let sum = read_sum(bytes)?;
-    if variable >= LETTERS as u64 {
+    if variable >= VARIABLES as u64 {
         return refuse(VARIABLE, 0);
     }
     let variable = variable as usize;
@@ -48,14 +49,14 @@ pub fn read_list(bytes: &[u8]) -> Result<Vec<Pair>, Refused> {
     let fault = |place: usize| Refused { number: LIST, place: place as u64 };
     let mut reader = Reader::new(bytes);
     let count = reader.number().map_err(fault)?;
-    if count > MOST_PAIRS {
+    if count > MOST_PAIRS as u64 {
         return refuse(LIST, 0);
     }
     let mut pairs = Vec::new();
     for _ in 0..count {
         let first = reader.place;
         let variable = reader.number().map_err(fault)?;
-        if variable >= LETTERS as u64 {
+        if variable >= VARIABLES as u64 {
             return refuse(VARIABLE, first);
         }
         let sum = reader.sum().map_err(fault)?;
@@ -93,7 +94,7 @@ fn weight_after(sum: &Sum, pair: &Pair) -> Option<u128> {
     Some(weight)
 }
 
-/// S^0 = 1, S^1 = S, then each step up to the largest k; None if a step's spread is above 128.
+/// S^0 = 1, S^1 = S, then each step up to the largest k; None if a step's spread is too large.
 fn powers_of(pair: &Pair, largest: u32) -> Option<Vec<Sum>> {
     let mut powers = vec![Sum::one_term(1, Pattern::empty()), pair.sum.clone()];
     for _ in 2..=largest {
@@ -103,7 +104,7 @@ fn powers_of(pair: &Pair, largest: u32) -> Option<Vec<Sum>> {
     Some(powers)
 }
 
-/// All terms' products together; None if a spread is above 128.
+/// All terms' products together; None if a spread is too large.
 fn put_in(sum: &Sum, pair: &Pair) -> Option<Sum> {
     let largest = sum.terms.iter().map(|term| power_in(term, pair)).max().unwrap_or(0);
     let powers = powers_of(pair, largest)?;
@@ -145,7 +146,7 @@ pub fn substitute(
     patterns: &mut [u64],
     coefficients: &mut [i64],
 ) -> Answer {
-    if result.len() < RESULT_ROOM || patterns.len() < WORK_ROOM || coefficients.len() < WORK_ROOM {
+    if result.len() < MOST_PACKED || patterns.len() < WORK_ROOM || coefficients.len() < WORK_ROOM {
         return refuse(ROOM, 0);
     }
     patterns[..WORK_ROOM].fill(0);

@@ -1,47 +1,21 @@
 //! Comparison of this program's answers with another's, and the table of what was met.
 
-use crate::lines::{answer, UNKNOWN};
+use crate::lines::{answer, name_of, UNKNOWN};
 use crate::next_line;
-use crate::operations::Own;
-use crate::refusals::{self, NAMES};
+use crate::operations::{own, Operation, ALL};
+use crate::refusals::NAMES;
 use std::io::{self, BufRead};
-
-/// Each operation with the refusals it can give. The slope's SPREAD is named by 01 but cannot be met.
-const ROWS: [(&str, &[u64]); 7] = [
-    ("text", &[refusals::ROOM, refusals::TEXT, refusals::NODES]),
-    (
-        "simplify",
-        &[refusals::ROOM, refusals::SHAPE, refusals::NODE, refusals::DEGREE, refusals::WEIGHT, refusals::SPREAD],
-    ),
-    ("unpack", &[refusals::ROOM, refusals::SUM]),
-    ("pack", &[refusals::ROOM, refusals::SHAPE, refusals::SUM]),
-    ("slope", &[refusals::ROOM, refusals::SUM, refusals::VARIABLE, refusals::WEIGHT]),
-    (
-        "substitute",
-        &[
-            refusals::ROOM,
-            refusals::SUM,
-            refusals::LIST,
-            refusals::VARIABLE,
-            refusals::DEGREE,
-            refusals::WEIGHT,
-            refusals::SPREAD,
-        ],
-    ),
-    ("estimate", &[refusals::ROOM, refusals::SUM, refusals::READING, refusals::RANGE]),
-];
 
 /// Longer lines are shown cut.
 const SHOWN: usize = 400;
 const FIRST_SHOWN: u64 = 5;
 
-#[derive(Default)]
 pub struct Tally {
     pub cases: u64,
     pub differ: u64,
     unknown: u64,
     /// For each operation: done, then the refusals by number.
-    counts: [[u64; NAMES.len()]; ROWS.len()],
+    counts: Vec<[u64; NAMES.len()]>,
     /// The same answers where no cell is meant for them.
     strange: u64,
 }
@@ -55,7 +29,16 @@ fn shown(line: &[u8]) -> String {
     }
 }
 
+/// Whether an operation can give this answer; column 0 is that it is done.
+fn possible(operation: &Operation, column: usize) -> bool {
+    column == 0 || operation.refusals.contains(&(column as u64))
+}
+
 impl Tally {
+    pub fn new() -> Tally {
+        Tally { cases: 0, differ: 0, unknown: 0, counts: vec![[0; NAMES.len()]; ALL.len()], strange: 0 }
+    }
+
     /// Counts one case with its own answer, and compares it with the other's.
     pub fn add(&mut self, case: &[u8], own: &str, other: &[u8], name: &str) {
         self.cases += 1;
@@ -79,7 +62,7 @@ impl Tally {
             self.unknown += 1;
             return;
         }
-        let row = ROWS.iter().position(|(name, _)| case.split(|&byte| byte == b' ').next() == Some(name.as_bytes()));
+        let row = ALL.iter().position(|operation| operation.name.as_bytes() == name_of(case));
         let mut words = own.split(' ');
         let column = match (words.next(), words.next()) {
             (Some("done"), _) => Some(0),
@@ -92,17 +75,13 @@ impl Tally {
         }
     }
 
-    fn possible(row: usize, column: usize) -> bool {
-        column == 0 || ROWS[row].1.contains(&(column as u64))
-    }
-
     /// Names of the cells that could have been met and were not.
     pub fn empty_cells(&self) -> Vec<String> {
         let mut empty = Vec::new();
-        for (row, (name, _)) in ROWS.iter().enumerate() {
+        for (operation, counts) in ALL.iter().zip(&self.counts) {
             for (column, refusal) in NAMES.iter().enumerate() {
-                if Tally::possible(row, column) && self.counts[row][column] == 0 {
-                    empty.push(format!("{name} {refusal}"));
+                if possible(operation, column) && counts[column] == 0 {
+                    empty.push(format!("{} {refusal}", operation.name));
                 }
             }
         }
@@ -118,12 +97,11 @@ impl Tally {
             print!("{name:>9}");
         }
         println!();
-        for (row, (name, _)) in ROWS.iter().enumerate() {
-            print!("{name:<11}");
-            for column in 0..NAMES.len() {
-                let count = self.counts[row][column];
+        for (operation, counts) in ALL.iter().zip(&self.counts) {
+            print!("{:<11}", operation.name);
+            for (column, &count) in counts.iter().enumerate() {
                 // A cell that is not possible is shown if it was met all the same.
-                if Tally::possible(row, column) || count > 0 {
+                if possible(operation, column) || count > 0 {
                     print!("{count:>9}");
                 } else {
                     print!("{:>9}", ".");
@@ -151,15 +129,15 @@ impl Tally {
 
 /// Line by line; a missing line on either side makes the comparison fail.
 pub fn files(cases: &mut dyn BufRead, answers: &mut dyn BufRead, name: &str) -> io::Result<bool> {
-    let mut tally = Tally::default();
+    let mut tally = Tally::new();
     let mut missing = 0u64;
     while let Some(case) = next_line(cases)? {
-        let own = answer(&case, &Own);
+        let ours = answer(&case, own);
         match next_line(answers)? {
-            Some(other) => tally.add(&case, &own, &other, name),
+            Some(other) => tally.add(&case, &ours, &other, name),
             None => {
                 missing += 1;
-                tally.add(&case, &own, b"(no line)", name);
+                tally.add(&case, &ours, b"(no line)", name);
             }
         }
     }

@@ -3,19 +3,22 @@
 
 use crate::packed::read_sum;
 use crate::refusals::{refuse, Answer, Refused, RANGE, READING, ROOM};
-use crate::sums::{Pattern, Sum, LARGEST_WEIGHT, LETTERS};
+use crate::sums::{Pattern, Sum, LARGEST_WEIGHT, VARIABLES};
 
-pub const ANSWER_ROOM: usize = 16;
-const NUMBERS_LENGTH: usize = 2 * LETTERS;
+/// Estimate and margin.
+pub const ANSWER_ROOM: usize = 2 * NUMBER_BYTES;
+const NUMBER_BYTES: usize = 8;
+/// Readings, and tolerances as well: two bytes for each variable.
+pub const READING_BYTES: usize = 2 * VARIABLES;
 
-/// Eight two-byte two's complement numbers, low byte first.
-fn numbers_of(bytes: &[u8]) -> [i64; LETTERS] {
+/// Two-byte two's complement numbers, low byte first.
+fn numbers_of(bytes: &[u8]) -> [i64; VARIABLES] {
     std::array::from_fn(|index| i64::from(i16::from_le_bytes([bytes[2 * index], bytes[2 * index + 1]])))
 }
 
 /// A wrong length of either is place 0, whatever the tolerances hold; else the first negative tolerance.
-fn read_numbers(readings: &[u8], tolerances: &[u8]) -> Result<([i64; LETTERS], [i64; LETTERS]), Refused> {
-    if readings.len() != NUMBERS_LENGTH || tolerances.len() != NUMBERS_LENGTH {
+fn read_numbers(readings: &[u8], tolerances: &[u8]) -> Result<([i64; VARIABLES], [i64; VARIABLES]), Refused> {
+    if readings.len() != READING_BYTES || tolerances.len() != READING_BYTES {
         return refuse(READING, 0);
     }
     let tolerances = numbers_of(tolerances);
@@ -26,8 +29,8 @@ fn read_numbers(readings: &[u8], tolerances: &[u8]) -> Result<([i64; LETTERS], [
 }
 
 /// The factor that a pattern is at these values, or None above 2^62. A factor 0 decides before any other is raised.
-fn raised_pattern(pattern: &Pattern, raised: &[u128; LETTERS]) -> Option<u128> {
-    let letters = || (0..LETTERS).filter(|&letter| pattern.exponent(letter) > 0);
+fn raised_pattern(pattern: &Pattern, raised: &[u128; VARIABLES]) -> Option<u128> {
+    let letters = || (0..VARIABLES).filter(|&letter| pattern.exponent(letter) > 0);
     if letters().any(|letter| raised[letter] == 0) {
         return Some(0);
     }
@@ -44,7 +47,7 @@ fn raised_pattern(pattern: &Pattern, raised: &[u128; LETTERS]) -> Option<u128> {
 }
 
 /// The value with all signs dropped, or None above 2^62. No coefficient is 0, so a pattern above 2^62 decides.
-fn unsigned_value(sum: &Sum, raised: &[u128; LETTERS]) -> Option<u128> {
+fn unsigned_value(sum: &Sum, raised: &[u128; VARIABLES]) -> Option<u128> {
     let mut total = 0u128;
     for term in &sum.terms {
         total += u128::from(term.coefficient.unsigned_abs()) * raised_pattern(&term.pattern, raised)?;
@@ -57,10 +60,10 @@ fn unsigned_value(sum: &Sum, raised: &[u128; LETTERS]) -> Option<u128> {
 
 /// The exact value. Called after RANGE: no term's product is above 2^62 then, but a zero factor still has to be seen
 /// first, since the other factors of such a term were not bounded.
-fn value(sum: &Sum, readings: &[i64; LETTERS]) -> i128 {
+fn value(sum: &Sum, readings: &[i64; VARIABLES]) -> i128 {
     let mut total = 0i128;
     for term in &sum.terms {
-        let letters = || (0..LETTERS).filter(|&letter| term.pattern.exponent(letter) > 0);
+        let letters = || (0..VARIABLES).filter(|&letter| term.pattern.exponent(letter) > 0);
         if letters().all(|letter| readings[letter] != 0) {
             let mut product = i128::from(term.coefficient);
             for letter in letters() {
@@ -80,13 +83,13 @@ pub fn estimate(bytes: &[u8], readings: &[u8], tolerances: &[u8], answer: &mut [
     }
     let sum = read_sum(bytes)?;
     let (readings, tolerances) = read_numbers(readings, tolerances)?;
-    let plain: [u128; LETTERS] = std::array::from_fn(|index| u128::from(readings[index].unsigned_abs()));
+    let plain: [u128; VARIABLES] = std::array::from_fn(|index| u128::from(readings[index].unsigned_abs()));
     let raised = std::array::from_fn(|index| plain[index] + u128::from(tolerances[index].unsigned_abs()));
     let Some(highest) = unsigned_value(&sum, &raised) else { return refuse(RANGE, 0) };
     let lowest = unsigned_value(&sum, &plain).expect("no more than the raised value");
     let estimate = i64::try_from(value(&sum, &readings)).expect("no more than the raised value");
     let margin = i64::try_from(highest - lowest).expect("no more than the raised value");
-    answer[..8].copy_from_slice(&estimate.to_le_bytes());
-    answer[8..16].copy_from_slice(&margin.to_le_bytes());
-    Ok(16)
+    answer[..NUMBER_BYTES].copy_from_slice(&estimate.to_le_bytes());
+    answer[NUMBER_BYTES..ANSWER_ROOM].copy_from_slice(&margin.to_le_bytes());
+    Ok(ANSWER_ROOM as u64)
 }

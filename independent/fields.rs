@@ -1,6 +1,48 @@
 //! The fields of a line in REPLAY.md: bytes, words and numbers. None where a field is not exactly as written there.
 
-use crate::areas::{LONGEST_BYTE_AREA, LONGEST_WORD_AREA};
+use crate::areas::Places;
+
+const WORD_BYTES: usize = 8;
+
+/// What a field gives to an operation.
+#[derive(Clone, Copy, PartialEq, Eq)]
+pub enum Given {
+    Bytes,
+    Words,
+    Signed,
+    Number,
+}
+
+/// Such a field as it was read.
+#[derive(Clone)]
+pub enum Input {
+    Bytes(Vec<u8>),
+    Words(Vec<u64>),
+    Signed(Vec<i64>),
+    Number(u64),
+}
+
+impl Given {
+    pub fn read(self, field: &[u8]) -> Option<Input> {
+        match self {
+            Given::Bytes => bytes(field).map(Input::Bytes),
+            Given::Words => words(field).map(Input::Words),
+            Given::Signed => signed_words(field).map(Input::Signed),
+            Given::Number => number(field).map(Input::Number),
+        }
+    }
+}
+
+impl Input {
+    pub fn shown(&self) -> String {
+        match self {
+            Input::Bytes(bytes) => show_bytes(bytes),
+            Input::Words(words) => show_words(words),
+            Input::Signed(words) => show_signed(words),
+            Input::Number(number) => number.to_string(),
+        }
+    }
+}
 
 fn digit(byte: u8) -> Option<u8> {
     match byte {
@@ -20,21 +62,21 @@ pub fn bytes(field: &[u8]) -> Option<Vec<u8>> {
     field.chunks(2).map(|pair| Some(16 * digit(pair[0])? + digit(pair[1])?)).collect()
 }
 
-/// 16 digits each, most significant first.
-pub fn words(field: &[u8]) -> Option<Vec<u64>> {
+/// Two digits for each byte of a word, most significant first.
+fn words(field: &[u8]) -> Option<Vec<u64>> {
     let bytes = bytes(field)?;
-    if bytes.len() % 8 != 0 {
+    if bytes.len() % WORD_BYTES != 0 {
         return None;
     }
-    Some(bytes.chunks(8).map(|word| word.iter().fold(0, |value, &byte| value << 8 | u64::from(byte))).collect())
+    Some(bytes.chunks(WORD_BYTES).map(|word| word.iter().fold(0, |value, &byte| value << 8 | u64::from(byte))).collect())
 }
 
-pub fn signed_words(field: &[u8]) -> Option<Vec<i64>> {
+fn signed_words(field: &[u8]) -> Option<Vec<i64>> {
     Some(words(field)?.into_iter().map(|word| word as i64).collect())
 }
 
 /// Decimal, no sign, no leading zero, at most 2^64 - 1.
-pub fn number(field: &[u8]) -> Option<u64> {
+fn number(field: &[u8]) -> Option<u64> {
     if field.is_empty() || (field[0] == b'0' && field.len() > 1) {
         return None;
     }
@@ -48,17 +90,10 @@ pub fn number(field: &[u8]) -> Option<u64> {
     Some(value)
 }
 
-fn length(field: &[u8], longest: usize) -> Option<usize> {
+/// How long a lent area is.
+pub fn length(field: &[u8], places: Places) -> Option<usize> {
     let length = number(field)?;
-    (length <= longest as u64).then_some(length as usize)
-}
-
-pub fn byte_length(field: &[u8]) -> Option<usize> {
-    length(field, LONGEST_BYTE_AREA)
-}
-
-pub fn word_length(field: &[u8]) -> Option<usize> {
-    length(field, LONGEST_WORD_AREA)
+    (length <= places.longest() as u64).then_some(length as usize)
 }
 
 pub fn show_bytes(bytes: &[u8]) -> String {
@@ -80,5 +115,6 @@ pub fn show_words(words: &[u64]) -> String {
 }
 
 pub fn show_signed(words: &[i64]) -> String {
-    show_words(&crate::areas::as_words(words))
+    let words: Vec<u64> = words.iter().map(|&word| word as u64).collect();
+    show_words(&words)
 }

@@ -23,9 +23,10 @@ mod stored;
 mod sums;
 mod table;
 mod text;
+mod typed;
 
-use cases::Lines;
-use operations::Own;
+use cases::Fresh;
+use operations::own;
 use std::fs::File;
 use std::io::{self, BufRead, BufReader, BufWriter, Write};
 use std::process::exit;
@@ -88,15 +89,16 @@ fn answer_all() -> io::Result<bool> {
     let mut input = io::stdin().lock();
     let mut output = output();
     while let Some(line) = next_line(&mut input)? {
-        writeln!(output, "{}", lines::answer(&line, &Own))?;
+        writeln!(output, "{}", lines::answer(&line, own))?;
     }
     output.flush().map(|()| true)
 }
 
 fn write_cases(seed: u64, count: u64) -> io::Result<bool> {
     let mut output = output();
-    for line in Lines::new(seed).take(count as usize) {
-        output.write_all(&line)?;
+    let mut fresh = Fresh::new(seed);
+    for _ in 0..count {
+        output.write_all(&fresh.line())?;
         output.write_all(b"\n")?;
     }
     output.flush().map(|()| true)

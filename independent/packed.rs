@@ -1,10 +1,17 @@
 //! Packed bytes of 01: numbers in groups of seven bits, packed sums, and the places of their faults; unpack and pack.
 
 use crate::refusals::{refuse, Answer, Refused, ROOM, SHAPE, SUM};
-use crate::sums::{Pattern, Sum, Term, LARGEST_DEGREE, LARGEST_SPREAD, LARGEST_WEIGHT, LETTERS};
+use crate::sums::{Pattern, Sum, Term, LARGEST_DEGREE, LARGEST_WEIGHT, MOST_TERMS, VARIABLES};
 
-pub const RESULT_ROOM: usize = 2306;
-pub const UNPACK_ROOM: usize = 128;
+/// Groups of seven bits that a number below 2^64 takes at most. All but the last hold 63 bits.
+pub const MOST_GROUPS: usize = 10;
+/// A term has its coefficient and a byte for each exponent, since none is above 127.
+pub const MOST_TERM_BYTES: usize = MOST_GROUPS + VARIABLES;
+/// The count takes two bytes where it is largest.
+const MOST_COUNT_BYTES: usize = 2;
+/// What 01 gives a packed result, and so the room that it needs.
+pub const MOST_PACKED: usize = MOST_TERM_BYTES * MOST_TERMS + MOST_COUNT_BYTES;
+pub const UNPACK_ROOM: usize = MOST_TERMS;
 
 /// The caller's bytes and the place in them. Every reading function answers with the place of the first fault met.
 pub struct Reader<'a> {
@@ -21,10 +28,10 @@ impl<'a> Reader<'a> {
     pub fn number(&mut self) -> Result<u64, usize> {
         let first = self.place;
         let mut value = 0u64;
-        for group in 0..10 {
+        for group in 0..MOST_GROUPS {
             let Some(&byte) = self.bytes.get(first + group) else { return Err(self.bytes.len()) };
-            // Nine groups hold 63 bits. Above 1, the tenth would pass 2^64 - 1 or ask for an eleventh group.
-            if group == 9 && byte > 1 {
+            // The last group has one bit left. Above 1, it would pass 2^64 - 1 or ask for a group more.
+            if group == MOST_GROUPS - 1 && byte > 1 {
                 return Err(first);
             }
             value |= u64::from(byte & 0x7f) << (7 * group);
@@ -36,14 +43,14 @@ impl<'a> Reader<'a> {
                 return Ok(value);
             }
         }
-        unreachable!("the tenth byte always ends the number or is a fault")
+        unreachable!("the last group always ends the number or is a fault")
     }
 
     /// One packed sum. What follows it is not looked at: left-over bytes are `end`'s affair.
     pub fn sum(&mut self) -> Result<Sum, usize> {
         let first = self.place;
         let count = self.number()?;
-        if count > LARGEST_SPREAD as u64 {
+        if count > MOST_TERMS as u64 {
             return Err(first);
         }
         let mut sum = Sum::zero();
@@ -73,7 +80,7 @@ impl<'a> Reader<'a> {
     }
 
     fn pattern(&mut self) -> Result<Pattern, usize> {
-        let mut exponents = [0u8; LETTERS];
+        let mut exponents = [0u8; VARIABLES];
         let mut degree = 0u128;
         for exponent in &mut exponents {
             let first = self.place;
@@ -131,7 +138,7 @@ pub fn packed(sum: &Sum) -> Vec<u8> {
     write_number(&mut bytes, sum.terms.len() as u64);
     for term in &sum.terms {
         write_number(&mut bytes, code_of(i128::from(term.coefficient)));
-        for variable in 0..LETTERS {
+        for variable in 0..VARIABLES {
             write_number(&mut bytes, u64::from(term.pattern.exponent(variable)));
         }
     }
@@ -158,10 +165,10 @@ pub fn unpack(bytes: &[u8], patterns: &mut [u64], coefficients: &mut [i64]) -> A
 }
 
 pub fn pack(count: u64, patterns: &[u64], coefficients: &[i64], result: &mut [u8]) -> Answer {
-    if result.len() < RESULT_ROOM {
+    if result.len() < MOST_PACKED {
         return refuse(ROOM, 0);
     }
-    let room = patterns.len().min(coefficients.len()).min(LARGEST_SPREAD);
+    let room = patterns.len().min(coefficients.len()).min(MOST_TERMS);
     if count > room as u64 {
         return refuse(SHAPE, 0);
     }

@@ -27,7 +27,7 @@ pub struct Refused {
     pub place: u64,
 }
 
-/// What an operation returns: a length, a number of nodes or terms, or 16; else a refusal.
+/// What an operation returns: a length, a number of nodes or terms, or that of the bytes of an answer; else a refusal.
 pub type Answer = Result<u64, Refused>;
 
 pub fn refuse<T>(number: u64, place: usize) -> Result<T, Refused> {

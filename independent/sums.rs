@@ -2,40 +2,55 @@
 
 use std::collections::BTreeMap;
 
-pub const LETTERS: usize = 8;
+/// The variables are the first so many letters. Sizes that depend on it are derived from it.
+pub const VARIABLES: usize = 8;
 pub const LARGEST_DEGREE: u32 = 60;
 pub const LARGEST_WEIGHT: u128 = 1 << 62;
 pub const LARGEST_SPREAD: usize = 128;
+/// No sum has more terms than a spread may have patterns.
+pub const MOST_TERMS: usize = LARGEST_SPREAD;
 
-/// Eight exponents, a first. The degree stands before them so that the derived comparison is 01's term order: of two
-/// patterns the greater one (larger total degree, then larger power of a, of b, ..) stands first in a sum.
+/// The letters of the variables.
+pub const FIRST_LETTER: u8 = b'a';
+pub const LAST_LETTER: u8 = FIRST_LETTER + VARIABLES as u8 - 1;
+
+/// In a word each exponent has so many bits.
+pub const EXPONENT_BITS: usize = 8;
+const _: () = assert!(EXPONENT_BITS * VARIABLES <= u64::BITS as usize, "a pattern fits a word");
+
+/// What one more power of a variable adds to a word: the last variable has the lowest bits.
+pub const fn unit_of(variable: usize) -> u64 {
+    1 << (EXPONENT_BITS * (VARIABLES - 1 - variable))
+}
+
+/// An exponent for each variable, a first. The degree stands before them so that the derived comparison is 01's term
+/// order: of two patterns the greater one (larger total degree, then larger power of a, of b, ..) stands first in a sum.
 #[derive(Debug, Clone, Copy, PartialEq, Eq, PartialOrd, Ord)]
 pub struct Pattern {
     degree: u32,
-    exponents: [u8; LETTERS],
+    exponents: [u8; VARIABLES],
 }
 
 impl Pattern {
-    pub fn new(exponents: [u8; LETTERS]) -> Pattern {
+    pub fn new(exponents: [u8; VARIABLES]) -> Pattern {
         let degree = exponents.iter().map(|&exponent| u32::from(exponent)).sum();
         Pattern { degree, exponents }
     }
 
     pub fn empty() -> Pattern {
-        Pattern::new([0; LETTERS])
+        Pattern::new([0; VARIABLES])
     }
 
     pub fn letter(variable: usize) -> Pattern {
         Pattern::empty().with(variable, 1)
     }
 
-    /// From a 64-bit word: a in the highest byte, h in the lowest.
     pub fn from_word(word: u64) -> Pattern {
-        Pattern::new(word.to_be_bytes())
+        Pattern::new(std::array::from_fn(|variable| (word / unit_of(variable) % (1 << EXPONENT_BITS)) as u8))
     }
 
     pub fn word(&self) -> u64 {
-        u64::from_be_bytes(self.exponents)
+        (0..VARIABLES).map(|variable| u64::from(self.exponents[variable]) * unit_of(variable)).sum()
     }
 
     pub fn degree(&self) -> u32 {
@@ -53,7 +68,7 @@ impl Pattern {
         Pattern::new(exponents)
     }
 
-    /// Only called where the degree of the product was found to be at most 60, so no byte overflows.
+    /// Only called where the degree of the product was found to be allowed, so no byte overflows.
     pub fn product(&self, other: &Pattern) -> Pattern {
         let mut exponents = self.exponents;
         for (mine, theirs) in exponents.iter_mut().zip(other.exponents) {
@@ -129,7 +144,7 @@ impl Gathered {
     }
 }
 
-/// The sum of two ordered sums; None if its spread is above 128.
+/// The sum of two ordered sums; None if its spread is too large.
 pub fn sum_of(left: &Sum, right: &Sum) -> Option<Sum> {
     let mut gathered = Gathered::default();
     for term in left.terms.iter().chain(&right.terms) {
@@ -138,7 +153,7 @@ pub fn sum_of(left: &Sum, right: &Sum) -> Option<Sum> {
     (!gathered.too_wide()).then(|| gathered.ordered())
 }
 
-/// The product of two ordered sums; None if its spread is above 128.
+/// The product of two ordered sums; None if its spread is too large.
 pub fn product_of(left: &Sum, right: &Sum) -> Option<Sum> {
     let mut gathered = Gathered::default();
     for mine in &left.terms {
@@ -154,7 +169,7 @@ pub fn product_of(left: &Sum, right: &Sum) -> Option<Sum> {
     Some(gathered.ordered())
 }
 
-/// base^exponent by multiplying by the base again and again; None if a step's spread is above 128.
+/// base^exponent by multiplying by the base again and again; None if a step's spread is too large.
 pub fn power_of(base: &Sum, exponent: u32) -> Option<Sum> {
     if exponent == 0 {
         return Some(Sum::one_term(1, Pattern::empty()));

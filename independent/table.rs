@@ -1,13 +1,16 @@
 //! The formula table of 01 and simplify: table to packed sum, with the checks NODE, DEGREE, WEIGHT, SPREAD node by node.
 
-use crate::packed::{write_result, RESULT_ROOM};
+use crate::packed::{write_result, MOST_PACKED};
 use crate::refusals::{refuse, Answer, Refused, DEGREE, NODE, ROOM, SHAPE, SPREAD, WEIGHT};
 use crate::sums::{power_of, product_of, raised_weight, sum_of, Pattern, Sum, Term};
-use crate::sums::{LARGEST_DEGREE, LARGEST_WEIGHT, LETTERS};
+use crate::sums::{LARGEST_DEGREE, LARGEST_WEIGHT, MOST_TERMS, VARIABLES};
 
-pub const WORK_ROOM: usize = 8192;
-pub const PART: usize = 128;
 pub const MOST_NODES: usize = 64;
+/// Kind, first and second.
+pub const NODE_NUMBERS: usize = 3;
+/// Each node has a part of the work areas for its terms.
+pub const PART: usize = MOST_TERMS;
+pub const WORK_ROOM: usize = PART * MOST_NODES;
 
 pub const INTEGER: i64 = 0;
 pub const VARIABLE: i64 = 1;
@@ -39,7 +42,7 @@ pub fn kind_of(numbers: &[i64], index: usize) -> Option<Kind> {
     let earlier = |number: i64| usize::try_from(number).ok().filter(|&child| child < index);
     match kind {
         INTEGER if second == 0 => Some(Kind::Integer(first)),
-        VARIABLE if second == 0 && (0..LETTERS as i64).contains(&first) => Some(Kind::Variable(first as usize)),
+        VARIABLE if second == 0 && (0..VARIABLES as i64).contains(&first) => Some(Kind::Variable(first as usize)),
         SUM => Some(Kind::Sum(earlier(first)?, earlier(second)?)),
         PRODUCT => Some(Kind::Product(earlier(first)?, earlier(second)?)),
         POWER if (0..=i64::from(LARGEST_DEGREE)).contains(&second) => {
@@ -71,7 +74,7 @@ fn formal_weight(kind: Kind, nodes: &[Node]) -> Option<u128> {
     (weight <= LARGEST_WEIGHT).then_some(weight)
 }
 
-/// The node's ordered sum from the ordered sums of its children; None if a spread is above 128.
+/// The node's ordered sum from the ordered sums of its children; None if a spread is too large.
 fn ordered_sum(kind: Kind, sum_at: &dyn Fn(usize) -> Sum) -> Option<Sum> {
     match kind {
         Kind::Integer(value) => Some(Sum::one_term(value, Pattern::empty())),
@@ -113,12 +116,12 @@ fn keep_sum(index: usize, sum: &Sum, patterns: &mut [u64], coefficients: &mut [i
 
 /// The last node's ordered sum. Every node is checked, used or not.
 fn sum_of_table(table: &[i64], patterns: &mut [u64], coefficients: &mut [i64]) -> Result<Sum, Refused> {
-    let count = table.len() / 3;
-    if table.len() % 3 != 0 || count < 1 || count > MOST_NODES {
+    let count = table.len() / NODE_NUMBERS;
+    if table.len() % NODE_NUMBERS != 0 || count < 1 || count > MOST_NODES {
         return refuse(SHAPE, 0);
     }
     let mut nodes: Vec<Node> = Vec::new();
-    for numbers in table.chunks(3) {
+    for numbers in table.chunks(NODE_NUMBERS) {
         let sum_at = |index: usize| kept_sum(index, nodes[index].terms, patterns, coefficients);
         let (node, sum) = next_node(numbers, &nodes, &sum_at)?;
         keep_sum(nodes.len(), &sum, patterns, coefficients);
@@ -128,9 +131,9 @@ fn sum_of_table(table: &[i64], patterns: &mut [u64], coefficients: &mut [i64]) -
     Ok(kept_sum(last, nodes[last].terms, patterns, coefficients))
 }
 
-/// ROOM is judged before the work areas are touched; after any other answer their first 8,192 places are zero.
+/// ROOM is judged before the work areas are touched; after any other answer the places that they need are zero.
 pub fn simplify(table: &[i64], result: &mut [u8], patterns: &mut [u64], coefficients: &mut [i64]) -> Answer {
-    if result.len() < RESULT_ROOM || patterns.len() < WORK_ROOM || coefficients.len() < WORK_ROOM {
+    if result.len() < MOST_PACKED || patterns.len() < WORK_ROOM || coefficients.len() < WORK_ROOM {
         return refuse(ROOM, 0);
     }
     let answer = sum_of_table(table, patterns, coefficients);

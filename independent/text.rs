@@ -2,10 +2,10 @@
 //! where they stop is the length of the longest prefix that some allowed text begins with.
 
 use crate::refusals::{refuse, Answer, NODES, ROOM, TEXT};
-use crate::sums::{LARGEST_DEGREE, LARGEST_WEIGHT};
-use crate::table::{INTEGER, MOST_NODES, POWER, PRODUCT, SUM, VARIABLE};
+use crate::sums::{FIRST_LETTER, LARGEST_DEGREE, LARGEST_WEIGHT, LAST_LETTER};
+use crate::table::{INTEGER, MOST_NODES, NODE_NUMBERS, POWER, PRODUCT, SUM, VARIABLE};
 
-pub const TABLE_ROOM: usize = 192;
+pub const TABLE_ROOM: usize = NODE_NUMBERS * MOST_NODES;
 pub const LONGEST_TEXT: usize = 1024;
 pub const DEEPEST_BRACKETS: usize = 16;
 
@@ -16,7 +16,7 @@ struct TextReader<'a> {
     text: &'a [u8],
     place: usize,
     brackets: usize,
-    nodes: Vec<[i64; 3]>,
+    nodes: Vec<[i64; NODE_NUMBERS]>,
 }
 
 impl TextReader<'_> {
@@ -82,16 +82,16 @@ impl TextReader<'_> {
         Ok(self.node(POWER, atom, exponent))
     }
 
-    /// A number, a letter a..h, or a sum in brackets.
+    /// A number, the letter of a variable, or a sum in brackets.
     fn atom(&mut self) -> Result<i64, Fault> {
         match self.next() {
             Some(b'0'..=b'9') => {
                 let value = self.number(LARGEST_WEIGHT)?;
                 Ok(self.node(INTEGER, value, 0))
             }
-            Some(letter @ b'a'..=b'h') => {
+            Some(letter @ FIRST_LETTER..=LAST_LETTER) => {
                 self.place += 1;
-                Ok(self.node(VARIABLE, i64::from(letter - b'a'), 0))
+                Ok(self.node(VARIABLE, i64::from(letter - FIRST_LETTER), 0))
             }
             Some(b'(') if self.brackets < DEEPEST_BRACKETS => self.in_brackets(),
             _ => Err(self.place),
@@ -131,7 +131,7 @@ impl TextReader<'_> {
 }
 
 /// The nodes of an allowed text, or the place of the fault. Length and node limits are not judged here.
-pub fn nodes_of(text: &[u8]) -> Result<Vec<[i64; 3]>, Fault> {
+pub fn nodes_of(text: &[u8]) -> Result<Vec<[i64; NODE_NUMBERS]>, Fault> {
     let mut reader = TextReader { text, place: 0, brackets: 0, nodes: Vec::new() };
     reader.sum()?;
     if reader.place < text.len() {
@@ -152,7 +152,7 @@ pub fn read_text(text: &[u8], table: &mut [i64]) -> Answer {
         return refuse(NODES, 0);
     }
     for (index, node) in nodes.iter().enumerate() {
-        table[3 * index..3 * index + 3].copy_from_slice(node);
+        table[NODE_NUMBERS * index..][..NODE_NUMBERS].copy_from_slice(node);
     }
     Ok(nodes.len() as u64)
 }

@@ -1,12 +1,19 @@
 //! A small seeded generator (splitmix64): the same seed gives the same cases on every machine.
 
+use crate::sums::VARIABLES;
+
 pub struct Chance {
     state: u64,
 }
 
 impl Chance {
-    pub fn new(seed: u64) -> Chance {
-        Chance { state: seed }
+    /// The stream of this name for a seed: another name or another seed gives a stream that has nothing to do with it.
+    pub fn named(seed: u64, name: &str) -> Chance {
+        let mut chance = Chance { state: seed };
+        for byte in name.bytes() {
+            chance.state = chance.word() ^ u64::from(byte);
+        }
+        chance
     }
 
     pub fn word(&mut self) -> u64 {
@@ -62,10 +69,19 @@ impl Chance {
         }
     }
 
-    /// A different order of the letters, so that no letter is always the one at fault.
-    pub fn letters(&mut self) -> [usize; 8] {
-        let mut letters = [0, 1, 2, 3, 4, 5, 6, 7];
-        for last in (1..8).rev() {
+    pub fn variable(&mut self) -> usize {
+        self.below(VARIABLES)
+    }
+
+    /// How many variables may occur in what is made.
+    pub fn some_variables(&mut self) -> usize {
+        self.between(1, VARIABLES)
+    }
+
+    /// A different order of the variables, so that none is always the one at fault.
+    pub fn letters(&mut self) -> [usize; VARIABLES] {
+        let mut letters = std::array::from_fn(|variable| variable);
+        for last in (1..VARIABLES).rev() {
             letters.swap(last, self.below(last + 1));
         }
         letters

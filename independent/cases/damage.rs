@@ -1,10 +1,13 @@
 //! Packed sums and lists as items, so that each kind of fault can be put at each item.
 
 use super::chance::Chance;
-use super::random_sums::MOST_WEIGHT;
-use crate::change::Pair;
-use crate::packed::{code_of, write_number};
-use crate::sums::{Sum, LETTERS};
+use super::random_sums::{HIGHEST, MOST_WEIGHT};
+use crate::change::{Pair, MOST_PAIRS};
+use crate::packed::{code_of, write_number, MOST_GROUPS};
+use crate::sums::{Sum, MOST_TERMS, VARIABLES};
+
+/// A coefficient and its exponents.
+const TERM_ITEMS: usize = 1 + VARIABLES;
 
 #[derive(Clone, Copy, PartialEq, Eq)]
 pub enum Kind {
@@ -25,7 +28,7 @@ fn add_sum(items: &mut Vec<Item>, sum: &Sum) {
     items.push(Item { kind: Kind::Count, value: sum.terms.len() as u64 });
     for term in &sum.terms {
         items.push(Item { kind: Kind::Coefficient, value: code_of(i128::from(term.coefficient)) });
-        for letter in 0..LETTERS {
+        for letter in 0..VARIABLES {
             items.push(Item { kind: Kind::Exponent, value: u64::from(term.pattern.exponent(letter)) });
         }
     }
@@ -79,11 +82,15 @@ fn other_value(chance: &mut Chance, items: &[Item], index: usize) -> u64 {
     if chance.one_in(6) {
         return chance.pick(&largest);
     }
+    let [pairs, variables, terms, highest] = [MOST_PAIRS, VARIABLES, MOST_TERMS, HIGHEST].map(|limit| limit as u64);
     let near = [here.wrapping_sub(1), here.wrapping_add(1)];
     let limits: Vec<u64> = match items[index].kind {
-        Kind::ListCount => vec![0, 8, 9, 9, 10],
-        Kind::Variable => vec![7, 8, 8, 9, 100, 255, 256 + here, (1 << 32) + here],
-        Kind::Count => vec![0, 127, 128, 129, 129, 256 + here, (1 << 32) + here],
+        Kind::ListCount => vec![0, pairs, pairs + 1, pairs + 1, pairs + 2],
+        Kind::Variable => {
+            let near = [variables - 1, variables, variables, variables + 1];
+            [&near[..], &[100, 255, 256 + here, (1 << 32) + here]].concat()
+        }
+        Kind::Count => vec![0, terms - 1, terms, terms + 1, terms + 1, 256 + here, (1 << 32) + here],
         Kind::Coefficient => {
             let sizes = [MOST_WEIGHT as i128, MOST_WEIGHT as i128 + 1];
             let mut codes: Vec<u64> = sizes.iter().flat_map(|&size| [code_of(size), code_of(-size)]).collect();
@@ -93,7 +100,8 @@ fn other_value(chance: &mut Chance, items: &[Item], index: usize) -> u64 {
         Kind::Exponent => {
             let before = exponents_before(items, index);
             // Up to the limit, one over it, and what a 64-bit addition would take for nothing at all.
-            vec![60 - before.min(60), 61 - before.min(60), 61, 62, 255, 256, u64::MAX - before, (!before).wrapping_add(1)]
+            let left = highest - before.min(highest);
+            vec![left, left + 1, highest + 1, highest + 2, 255, 256, u64::MAX - before, (!before).wrapping_add(1)]
         }
     };
     if chance.one_in(4) {
@@ -113,7 +121,7 @@ fn some_item(chance: &mut Chance, items: &[Item]) -> usize {
     let heads: Vec<usize> = (0..items.len()).filter(|&index| items[index].kind != Kind::Exponent).collect();
     match chance.below(4) {
         0 => chance.pick(&heads),
-        1 => items.len() - 1 - chance.below(items.len().min(9)),
+        1 => items.len() - 1 - chance.below(items.len().min(TERM_ITEMS)),
         _ => chance.below(items.len()),
     }
 }
@@ -134,20 +142,20 @@ fn other_groups(chance: &mut Chance, value: u64) -> Vec<u8> {
         // Not shortest: more groups of 0.
         0 | 1 => {
             bytes[last] |= 0x80;
-            let most = 10usize.saturating_sub(bytes.len()).max(1);
+            let most = MOST_GROUPS.saturating_sub(bytes.len()).max(1);
             let more = if chance.one_in(2) { 1 } else { chance.between(1, most) };
             bytes.extend(vec![0x80; more - 1]);
             bytes.push(0);
         }
-        // Nine groups that ask for more, then a tenth byte of every sort.
+        // As many groups as may ask for more, then a last byte of every sort.
         2 | 3 => {
-            bytes = (0..9).map(|_| 0x80 | chance.word() as u8).collect();
+            bytes = (1..MOST_GROUPS).map(|_| 0x80 | chance.word() as u8).collect();
             bytes.push(chance.pick(&[0, 1, 2, 3, 0x7f, 0x80, 0x81, 0xff]));
             if chance.one_in(4) {
                 bytes.push(chance.pick(&[0, 1, 0x80]));
             }
         }
-        _ => bytes = vec![0x80; chance.between(8, 11)],
+        _ => bytes = vec![0x80; chance.between(MOST_GROUPS - 2, MOST_GROUPS + 1)],
     }
     bytes
 }
@@ -156,7 +164,7 @@ fn with_other_groups(chance: &mut Chance, items: &[Item]) -> Vec<u8> {
     let index = some_item(chance, items);
     let mut bytes = bytes_of(&items[..index]);
     bytes.extend(other_groups(chance, items[index].value));
-    // The bytes may end at once: a tenth byte above 1 is a fault even as the last byte there is.
+    // The bytes may end at once: a last group above 1 is a fault even as the last byte there is.
     if !chance.one_in(3) {
         bytes.extend(bytes_of(&items[index + 1..]));
     }
@@ -181,22 +189,23 @@ fn cut_at_item(chance: &mut Chance, items: &[Item]) -> Vec<u8> {
 /// A term that is not strictly after the one before: the same pattern again, or two terms changed about.
 fn with_other_order(chance: &mut Chance, items: &[Item]) -> Vec<u8> {
     let is_term = |index: usize| items[index].kind == Kind::Coefficient;
-    let seconds: Vec<usize> = (9..items.len()).filter(|&index| is_term(index) && is_term(index - 9)).collect();
+    let is_second = |index: &usize| is_term(*index) && is_term(index - TERM_ITEMS);
+    let seconds: Vec<usize> = (TERM_ITEMS..items.len()).filter(is_second).collect();
     if seconds.is_empty() {
         return with_other_value(chance, items);
     }
     let mut items = items.to_vec();
     let second = chance.pick(&seconds);
     if chance.one_in(2) {
-        items.copy_within(second - 8..second, second + 1);
+        items.copy_within(second - VARIABLES..second, second + 1);
     } else {
-        for offset in 0..9 {
-            items.swap(second - 9 + offset, second + offset);
+        for offset in 0..TERM_ITEMS {
+            items.swap(second - TERM_ITEMS + offset, second + offset);
         }
     }
     // Now and then another fault inside the same term: the reader has to meet it first.
     if chance.one_in(4) {
-        let index = second + chance.below(9);
+        let index = second + chance.below(TERM_ITEMS);
         items[index].value = other_value(chance, &items, index);
     }
     bytes_of(&items)

@@ -1,15 +1,13 @@
-//! Cases of substitute: a packed sum and a list of pairs.
+//! Packed sums and lists of pairs for cases of substitute.
 
 use super::chance::Chance;
 use super::damage::{bytes_of, damaged, items_of_list, Kind};
-use super::lengths;
-use super::random_sums::{in_order, pattern_of_degree, small_plan, small_sum, sum_from, Plan, MOST_WEIGHT};
+use super::packed_sums::{damaged_packed, full_sum, some_packed};
+use super::random_sums::{in_order, pattern_of_degree, small_plan, small_sum, sum_from, Plan, HIGHEST, MOST_WEIGHT};
 use super::spreads;
-use super::unpacks::{damaged_packed, full_sum, some_packed};
-use crate::change::Pair;
-use crate::lines::Case;
+use crate::change::{Pair, MOST_PAIRS};
 use crate::packed::packed;
-use crate::sums::{Pattern, Sum, Term};
+use crate::sums::{Pattern, Sum, Term, VARIABLES};
 
 /// A sum and what is put into it.
 pub struct Substitution {
@@ -17,8 +15,8 @@ pub struct Substitution {
     pub pairs: Vec<Pair>,
 }
 
-pub fn substitute_case(chance: &mut Chance) -> Case {
-    let (sum, list) = match chance.below(100) {
+pub fn some_substitution(chance: &mut Chance) -> (Vec<u8>, Vec<u8>) {
+    match chance.below(100) {
         0..=33 => in_bytes(&plain(chance)),
         34..=38 => in_bytes(&turned(chance)),
         39..=43 => in_bytes(&of_any_size(chance)),
@@ -31,9 +29,7 @@ pub fn substitute_case(chance: &mut Chance) -> Case {
         96..=97 => (packed_small(chance), vec![0]),
         98 => (packed(&full_sum(chance)), vec![0]),
         _ => (some_packed(chance), some_list(chance)),
-    };
-    let result = lengths::result(chance);
-    Case::Substitute { sum, list, result, patterns: lengths::work(chance), coefficients: lengths::work(chance) }
+    }
 }
 
 fn in_bytes(substitution: &Substitution) -> (Vec<u8>, Vec<u8>) {
@@ -49,15 +45,15 @@ fn some_pairs(chance: &mut Chance) -> Vec<Pair> {
     let count = match chance.below(10) {
         0 => 0,
         1..=7 => chance.between(1, 3),
-        8 => chance.between(4, 7),
-        _ => 8,
+        8 => chance.between(4, MOST_PAIRS - 1),
+        _ => MOST_PAIRS,
     };
     (0..count).map(|_| some_pair(chance)).collect()
 }
 
 fn some_pair(chance: &mut Chance) -> Pair {
-    let plan = Plan { terms: chance.between(0, 3), degree: chance.between(0, 2), letters: chance.between(1, 8) };
-    Pair { variable: chance.below(8), sum: small_sum(chance, plan) }
+    let plan = Plan { terms: chance.between(0, 3), degree: chance.between(0, 2), letters: chance.some_variables() };
+    Pair { variable: chance.variable(), sum: small_sum(chance, plan) }
 }
 
 fn some_list(chance: &mut Chance) -> Vec<u8> {
@@ -66,17 +62,19 @@ fn some_list(chance: &mut Chance) -> Vec<u8> {
 
 fn damaged_list(chance: &mut Chance) -> Vec<u8> {
     let mut pairs = some_pairs(chance);
-    // Nine and ten whole pairs: only the count is at fault.
+    // One or two whole pairs too many: only the count is at fault.
     if chance.one_in(20) {
-        let count = chance.between(9, 10);
+        let count = chance.between(MOST_PAIRS + 1, MOST_PAIRS + 2);
         pairs = (0..count).map(|_| some_pair(chance)).collect();
         return bytes_of(&items_of_list(&pairs));
     }
-    // A variable number above 7 in one of the pairs.
+    // A number that no variable has in one of the pairs.
     if !pairs.is_empty() && chance.one_in(8) {
         let mut items = items_of_list(&pairs);
         let variables: Vec<usize> = (0..items.len()).filter(|&index| items[index].kind == Kind::Variable).collect();
-        items[chance.pick(&variables)].value = chance.pick(&[8, 8, 9, 127, 128, 255, 256, 1 << 32, 1 << 63, u64::MAX]);
+        let next = VARIABLES as u64;
+        let numbers = [next, next, next + 1, 127, 128, 255, 256, 1 << 32, 1 << 63, u64::MAX];
+        items[chance.pick(&variables)].value = chance.pick(&numbers);
         return bytes_of(&items);
     }
     damaged(chance, &items_of_list(&pairs))
@@ -89,12 +87,12 @@ fn plain(chance: &mut Chance) -> Substitution {
 
 /// Large sums and sums of high degree put in: met refusals of every sort.
 fn of_any_size(chance: &mut Chance) -> Substitution {
-    let plan = Plan { terms: chance.between(1, 12), degree: chance.between(1, 12), letters: 8 };
+    let plan = Plan { terms: chance.between(1, 12), degree: chance.between(1, 12), letters: VARIABLES };
     let sum = sum_from(chance, plan);
     let mut pairs = Vec::new();
     for _ in 0..chance.between(1, 4) {
-        let plan = Plan { terms: chance.between(0, 12), degree: chance.between(0, 8), letters: chance.between(1, 8) };
-        pairs.push(Pair { variable: chance.below(8), sum: sum_from(chance, plan) });
+        let plan = Plan { terms: chance.between(0, 12), degree: chance.between(0, 8), letters: chance.some_variables() };
+        pairs.push(Pair { variable: chance.variable(), sum: sum_from(chance, plan) });
     }
     Substitution { sum, pairs }
 }
@@ -103,11 +101,11 @@ fn of_any_size(chance: &mut Chance) -> Substitution {
 fn turned(chance: &mut Chance) -> Substitution {
     let plan = small_plan(chance);
     let sum = small_sum(chance, plan);
-    let variable = chance.below(8);
+    let variable = chance.variable();
     let mut pairs = Vec::new();
     for _ in 0..chance.between(2, 5) {
         let mut terms = vec![Term { coefficient: chance.signed(1), pattern: Pattern::letter(variable) }];
-        let other = chance.below(8);
+        let other = chance.variable();
         if other != variable {
             terms.push(Term { coefficient: chance.signed(1), pattern: Pattern::letter(other) });
         }
@@ -116,14 +114,14 @@ fn turned(chance: &mut Chance) -> Substitution {
     Substitution { sum, pairs }
 }
 
-/// Puts harmless pairs before the one that matters, so that its index is 0 to 7, and now and then some after it.
+/// Puts harmless pairs before the one that matters, so that it can be at any index, and now and then one after it.
 fn after_others(chance: &mut Chance, maker: fn(&mut Chance) -> Substitution) -> Substitution {
     let mut made = maker(chance);
-    let room = 8usize.saturating_sub(made.pairs.len());
+    let room = MOST_PAIRS.saturating_sub(made.pairs.len());
     let before = if chance.one_in(2) { 0 } else { chance.between(0, room) };
     let mut pairs: Vec<Pair> = (0..before).map(|_| itself(chance)).collect();
     pairs.append(&mut made.pairs);
-    if pairs.len() < 8 && chance.one_in(3) {
+    if pairs.len() < MOST_PAIRS && chance.one_in(3) {
         pairs.push(some_pair(chance));
     }
     made.pairs = pairs;
@@ -132,24 +130,24 @@ fn after_others(chance: &mut Chance, maker: fn(&mut Chance) -> Substitution) -> 
 
 /// A letter put in for itself changes nothing.
 fn itself(chance: &mut Chance) -> Pair {
-    let variable = chance.below(8);
+    let variable = chance.variable();
     Pair { variable, sum: Sum::one_term(1, Pattern::letter(variable)) }
 }
 
-/// The other exponents and k times the degree of what is put in add up to 60 or 61 in one term.
+/// The other exponents and k times the degree of what is put in add up to the largest degree or one more in one term.
 fn degree_edge(chance: &mut Chance) -> Substitution {
     let letters = chance.letters();
-    let aim = 60 + chance.below(2);
+    let aim = HIGHEST + chance.below(2);
     let power = chance.between(1, 10);
     let put_in = chance.between(0, aim / power);
-    let others = (aim - power * put_in).min(60 - power);
+    let others = (aim - power * put_in).min(HIGHEST - power);
     let pattern = Pattern::empty().with(letters[0], power as u8).with(letters[1], others as u8);
     let small = Pattern::letter(letters[2]);
     let mut terms = vec![Term { coefficient: chance.signed(2), pattern }];
     if small != pattern {
         terms.push(Term { coefficient: 3, pattern: small });
     }
-    let high = pattern_of_degree(chance, put_in, 8);
+    let high = pattern_of_degree(chance, put_in, VARIABLES);
     let mut inside = vec![Term { coefficient: chance.signed(1), pattern: high }];
     if put_in > 0 && chance.one_in(2) {
         inside.push(Term { coefficient: 1, pattern: Pattern::empty() });
@@ -189,7 +187,7 @@ fn several_refusals(chance: &mut Chance) -> Substitution {
     let letters = chance.letters();
     let high = chance.pick(&[2, 2, 15, 16, 20]);
     let heavy = chance.pick(&[1, 1, 1 << 13, 1 << 17, 1 << 40, MOST_WEIGHT as i64 - 8]);
-    let wide = chance.pick(&[1, 2, 7, 7]);
+    let wide = chance.pick(&[1, 2, VARIABLES - 1, VARIABLES - 1]);
     let highest = Pattern::empty().with(letters[0], high);
     let mut inside = vec![Term { coefficient: chance.signed(heavy), pattern: highest }];
     for &letter in &letters[1..=wide] {

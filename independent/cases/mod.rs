@@ -5,6 +5,7 @@ pub mod damage;
 pub mod lengths;
 pub mod lists;
 pub mod odd;
+pub mod packed_sums;
 pub mod random_sums;
 pub mod random_tables;
 pub mod random_texts;
@@ -20,45 +21,77 @@ pub mod unpacks;
 pub mod words;
 
 use crate::lines::{case_line, Case};
+use crate::operations::{Operation, ALL};
 use chance::Chance;
 
-/// A case of any operation.
-pub fn any_case(chance: &mut Chance) -> Case {
-    match chance.below(100) {
-        0..=15 => texts::text_case(chance),
-        16..=36 => tables::simplify_case(chance),
-        37..=48 => unpacks::unpack_case(chance),
-        49..=60 => words::pack_case(chance),
-        61..=70 => slopes::slope_case(chance),
-        71..=86 => lists::substitute_case(chance),
-        _ => readings::estimate_case(chance),
-    }
-}
+/// One line in so many of an operation is made odd: mostly it has no answer then.
+const ODD_EVERY: usize = 50;
+/// One fresh line in so many does not come from a case at all.
+const STRANGE_EVERY: usize = 400;
 
-/// A line without its newline; few of them are lines that have no answer.
-pub fn any_line(chance: &mut Chance) -> Vec<u8> {
-    let line = case_line(&any_case(chance)).into_bytes();
-    if chance.one_in(50) {
-        return odd::odd_line(chance, line);
-    }
-    line
-}
-
-/// The lines of a seed, one after the other.
-pub struct Lines {
+/// The random cases of one operation. They are drawn from a stream of their own, which the operation's name seeds
+/// together with the seed given, so they stay as they are whatever other operations draw, and however much.
+pub struct Stream {
+    operation: &'static Operation,
     chance: Chance,
 }
 
-impl Lines {
-    pub fn new(seed: u64) -> Lines {
-        Lines { chance: Chance::new(seed) }
+impl Stream {
+    pub fn new(seed: u64, operation: &'static Operation) -> Stream {
+        Stream { operation, chance: Chance::named(seed, operation.name) }
+    }
+
+    pub fn case(&mut self) -> Case {
+        let inputs = (self.operation.random)(&mut self.chance);
+        let lengths = self.operation.lent.iter().map(|lent| lengths::length(&mut self.chance, lent)).collect();
+        Case { operation: self.operation, inputs, lengths }
+    }
+
+    /// A line without its newline.
+    pub fn line(&mut self) -> Vec<u8> {
+        let case = self.case();
+        if self.chance.one_in(ODD_EVERY) {
+            return odd::odd_line(&mut self.chance, &case);
+        }
+        case_line(&case).into_bytes()
     }
 }
 
-impl Iterator for Lines {
-    type Item = Vec<u8>;
+/// The streams of all operations for one seed. Which of them is next comes from one more stream, so that an operation
+/// more or another share changes where a case stands, and not what it is.
+pub struct Fresh {
+    streams: Vec<Stream>,
+    turns: Chance,
+    strange: Chance,
+}
 
-    fn next(&mut self) -> Option<Vec<u8>> {
-        Some(any_line(&mut self.chance))
+impl Fresh {
+    pub fn new(seed: u64) -> Fresh {
+        let streams = ALL.iter().map(|operation| Stream::new(seed, operation)).collect();
+        Fresh { streams, turns: Chance::named(seed, "turns of all"), strange: Chance::named(seed, "strange lines") }
+    }
+
+    /// The stream whose turn it is; each has as many turns as its operation's share.
+    fn next_stream(&mut self) -> &mut Stream {
+        let shares: Vec<usize> = self.streams.iter().map(|stream| stream.operation.share).collect();
+        let mut turn = self.turns.below(shares.iter().sum());
+        let mut index = 0;
+        while turn >= shares[index] {
+            turn -= shares[index];
+            index += 1;
+        }
+        &mut self.streams[index]
+    }
+
+    pub fn case(&mut self) -> Case {
+        self.next_stream().case()
+    }
+
+    /// A line without its newline.
+    pub fn line(&mut self) -> Vec<u8> {
+        if self.turns.one_in(STRANGE_EVERY) {
+            return odd::strange_line(&mut self.strange);
+        }
+        self.next_stream().line()
     }
 }

@@ -1,24 +1,51 @@
 //! Lines that REPLAY.md answers `unknown`, each kind that it lists. Some changes leave a line as good as it was.
 
 use super::chance::Chance;
+use crate::areas::{LONGEST_BYTE_AREA, LONGEST_WORD_AREA};
+use crate::fields::Given;
+use crate::lines::{case_line, Case, LONGEST_LINE, UNKNOWN};
+use crate::operations::Operation;
+use crate::packed::MOST_PACKED;
+use crate::text::TABLE_ROOM;
 
-pub fn odd_line(chance: &mut Chance, line: Vec<u8>) -> Vec<u8> {
-    match chance.below(16) {
-        0 => Vec::new(),
-        1 => with_end(line, b"\r"),
-        2 => with_end(line, chance.pick(&[&b" "[..], b" 0", b" -", b" 192"])),
-        3 => with_other_name(chance, &line),
-        4 => without_field(chance, &line),
-        5 => with_empty_field(chance, &line),
-        6 => line.to_ascii_uppercase(),
-        7 => with_upper_field(chance, &line),
-        8 => with_odd_digits(chance, &line),
-        9..=11 => with_other_number(chance, &line),
-        12 => with_other_byte(chance, line),
-        13 => [&b" "[..], &line].concat(),
-        14 => with_word_cut(chance, &line),
-        _ if chance.one_in(12) => too_long(chance),
-        _ => chance.pick(&["unknown", "text", "-", "done 0 - stay", "text 61 192 stay", "# text 61 192"]).into(),
+/// The line of a case with one thing changed.
+pub fn odd_line(chance: &mut Chance, case: &Case) -> Vec<u8> {
+    let line = case_line(case).into_bytes();
+    let mut fields = fields_of(&line);
+    match chance.below(14) {
+        0 => return with_end(line, b"\r"),
+        1 => return with_end(line, chance.pick(&[&b" "[..], b" 0", b" -", b" 192"])),
+        2 => fields[0] = other_name(chance, case.operation.name),
+        3 => {
+            fields.remove(chance.below(fields.len()));
+        }
+        4 => empty_field(chance, &mut fields),
+        5 => return line.to_ascii_uppercase(),
+        6 => {
+            let index = some_field(chance, &fields);
+            fields[index].make_ascii_uppercase();
+        }
+        7 => {
+            let index = digits_field(chance, case.operation);
+            odd_digits(chance, &mut fields[index]);
+        }
+        8..=10 => fields[number_field(chance, case.operation)] = other_number(chance).into_bytes(),
+        11 => return with_other_byte(chance, line),
+        12 => return [&b" "[..], &line].concat(),
+        _ => {
+            let index = digits_field(chance, case.operation);
+            word_cut(chance, &mut fields[index]);
+        }
+    }
+    fields.join(&b' ')
+}
+
+/// Lines that come from no case.
+pub fn strange_line(chance: &mut Chance) -> Vec<u8> {
+    match chance.below(24) {
+        0 => too_long(chance),
+        1..=11 => Vec::new(),
+        _ => chance.pick(&[UNKNOWN, "text", "-", "done 0 - stay", "text 61 192 stay", "# text 61 192"]).into(),
     }
 }
 
@@ -26,80 +53,77 @@ fn fields_of(line: &[u8]) -> Vec<Vec<u8>> {
     line.split(|&byte| byte == b' ').map(<[u8]>::to_vec).collect()
 }
 
-fn joined(fields: &[Vec<u8>]) -> Vec<u8> {
-    fields.join(&b' ')
-}
-
 fn with_end(line: Vec<u8>, end: &[u8]) -> Vec<u8> {
     [&line, end].concat()
 }
 
-fn with_other_name(chance: &mut Chance, line: &[u8]) -> Vec<u8> {
-    let mut fields = fields_of(line);
-    let names = ["Text", "texts", "tex", "Simplify", "unpacked", "packs", "slop", "divide", "chain", "nest", "estimates"];
-    fields[0] = chance.pick(&names).into();
-    joined(&fields)
+/// A name that is nearly the operation's. Names of others are not taken: they may be given to an operation one day.
+fn other_name(chance: &mut Chance, name: &str) -> Vec<u8> {
+    let (first, rest) = name.split_at(1);
+    match chance.below(4) {
+        0 => format!("{}{rest}", first.to_ascii_uppercase()),
+        1 => rest.to_string(),
+        2 => format!("{name}s"),
+        _ => name[..name.len() - 1].to_string(),
+    }
+    .into_bytes()
 }
 
+/// Any but the name.
 fn some_field(chance: &mut Chance, fields: &[Vec<u8>]) -> usize {
     chance.between(1, fields.len() - 1)
 }
 
-fn without_field(chance: &mut Chance, line: &[u8]) -> Vec<u8> {
-    let mut fields = fields_of(line);
-    fields.remove(chance.below(fields.len()));
-    joined(&fields)
-}
-
 /// Two spaces together: an empty field, either put between two others or in the place of one.
-fn with_empty_field(chance: &mut Chance, line: &[u8]) -> Vec<u8> {
-    let mut fields = fields_of(line);
-    let index = some_field(chance, &fields);
+fn empty_field(chance: &mut Chance, fields: &mut Vec<Vec<u8>>) {
+    let index = some_field(chance, fields);
     if chance.one_in(2) {
         fields.insert(index, Vec::new());
     } else {
         fields[index].clear();
     }
-    joined(&fields)
 }
 
-fn with_upper_field(chance: &mut Chance, line: &[u8]) -> Vec<u8> {
-    let mut fields = fields_of(line);
-    let index = some_field(chance, &fields);
-    fields[index].make_ascii_uppercase();
-    joined(&fields)
+/// One of the fields of hex digits; the name is field 0.
+fn digits_field(chance: &mut Chance, operation: &Operation) -> usize {
+    let given = operation.given;
+    let fields: Vec<usize> = (0..given.len()).filter(|&index| given[index] != Given::Number).collect();
+    1 + chance.pick(&fields)
 }
 
-/// A digit less or a digit more in the first field of hex digits.
-fn with_odd_digits(chance: &mut Chance, line: &[u8]) -> Vec<u8> {
-    let mut fields = fields_of(line);
-    let index = if fields[0] == b"pack" { chance.between(2, 3) } else { 1 };
+/// One of the fields that are decimal numbers: those given, and every length.
+fn number_field(chance: &mut Chance, operation: &Operation) -> usize {
+    let given = operation.given;
+    let mut fields: Vec<usize> = (0..given.len()).filter(|&index| given[index] == Given::Number).collect();
+    fields.extend(given.len()..given.len() + operation.lent.len());
+    1 + chance.pick(&fields)
+}
+
+/// A digit less or a digit more.
+fn odd_digits(chance: &mut Chance, field: &mut Vec<u8>) {
     if chance.one_in(2) {
-        fields[index].pop();
+        field.pop();
     } else {
-        fields[index].push(b'0');
+        field.push(b'0');
     }
-    joined(&fields)
 }
 
-/// The last field is always a length; slope and pack have numbers besides.
-fn with_other_number(chance: &mut Chance, line: &[u8]) -> Vec<u8> {
-    let mut fields = fields_of(line);
-    let last = fields.len() - 1;
-    let index = match &fields[0][..] {
-        b"pack" if chance.one_in(2) => 1,
-        b"slope" if chance.one_in(2) => 2,
-        b"simplify" | b"substitute" => last - chance.below(3),
-        b"unpack" => last - chance.below(2),
-        _ => last,
-    };
-    let others = [
-        "00", "01", "0192", "02306", "+192", "-1", "1e3", "9001", "9000", "40001", "40000", "18446744073709551615",
-        "18446744073709551616", "18446744073709551617", "99999999999999999999", "340282366920938463463374607431768211456",
-        "4294967488", "0x80", "128.0", "", "-", "1_000", "１",
+fn other_number(chance: &mut Chance) -> String {
+    // The longest areas and one more, 2^64 - 1 and above, and what 32 bits would take for a small one.
+    let limits = [LONGEST_BYTE_AREA, LONGEST_BYTE_AREA + 1, LONGEST_WORD_AREA, LONGEST_WORD_AREA + 1];
+    let large = [
+        "18446744073709551615", "18446744073709551616", "18446744073709551617", "99999999999999999999",
+        "340282366920938463463374607431768211456", "4294967488",
     ];
-    fields[index] = chance.pick(&others).into();
-    joined(&fields)
+    let forms = ["00", "01", "-1", "1e3", "0x80", "128.0", "", "-", "1_000", "１"];
+    match chance.below(23) {
+        0..=3 => chance.pick(&limits).to_string(),
+        4..=9 => chance.pick(&large).to_string(),
+        10 => format!("+{TABLE_ROOM}"),
+        11 => format!("0{TABLE_ROOM}"),
+        12 => format!("0{MOST_PACKED}"),
+        _ => chance.pick(&forms).to_string(),
+    }
 }
 
 fn with_other_byte(chance: &mut Chance, mut line: Vec<u8>) -> Vec<u8> {
@@ -108,26 +132,21 @@ fn with_other_byte(chance: &mut Chance, mut line: Vec<u8>) -> Vec<u8> {
     line
 }
 
-/// Words of 14 or 18 digits: whole bytes, but not whole words.
-fn with_word_cut(chance: &mut Chance, line: &[u8]) -> Vec<u8> {
-    let mut fields = fields_of(line);
-    let index = if fields[0] == b"pack" { chance.between(2, 3) } else { 1 };
-    let length = fields[index].len();
-    if length > 2 && chance.one_in(2) {
-        fields[index].truncate(length - 2);
+/// Two digits less or more: whole bytes, but not whole words.
+fn word_cut(chance: &mut Chance, field: &mut Vec<u8>) {
+    if field.len() > 2 && chance.one_in(2) {
+        field.truncate(field.len() - 2);
     } else {
-        fields[index].extend(b"00");
+        field.extend(b"00");
     }
-    joined(&fields)
 }
 
-/// 65,536 bytes, which are still looked at, and more. The newline does not count.
+/// The longest line that is still looked at, and longer ones. The newline does not count.
 fn too_long(chance: &mut Chance) -> Vec<u8> {
-    let length = chance.pick(&[65_536, 65_537, 65_538, 70_000]);
-    let digits = if length % 2 == 0 { length - 10 } else { length - 9 };
-    let mut line = b"text ".to_vec();
-    line.resize(5 + digits, b'6');
-    line.extend(b" 192");
-    line.extend(vec![b'0'; length - line.len()]);
-    line
+    let length = LONGEST_LINE + chance.pick(&[0, 1, 2, 4_464]);
+    let (start, end) = ("text ", format!(" {TABLE_ROOM}"));
+    // An even number of digits, and zeros after the length to fill up.
+    let digits = (length - start.len() - end.len()) / 2 * 2;
+    let line = format!("{start}{}{end}", "6".repeat(digits));
+    format!("{line}{}", "0".repeat(length - line.len())).into_bytes()
 }

@@ -1,10 +1,12 @@
 //! Random ordered sums, few and many terms, small and large coefficients.
 
 use super::chance::Chance;
-use crate::sums::{Pattern, Sum, Term, LARGEST_WEIGHT};
+use crate::sums::{Pattern, Sum, Term, LARGEST_DEGREE, LARGEST_WEIGHT, MOST_TERMS};
 use std::collections::BTreeSet;
 
+/// The limits in the types that cases are drawn in.
 pub const MOST_WEIGHT: u64 = LARGEST_WEIGHT as u64;
+pub const HIGHEST: usize = LARGEST_DEGREE as usize;
 
 /// What kind of sum is wanted.
 #[derive(Clone, Copy)]
@@ -21,20 +23,20 @@ pub fn any_plan(chance: &mut Chance) -> Plan {
         3..=17 => 1,
         18..=77 => chance.between(2, 6),
         78..=94 => chance.between(7, 20),
-        95..=97 => chance.between(21, 127),
-        _ => 128,
+        95..=97 => chance.between(21, MOST_TERMS - 1),
+        _ => MOST_TERMS,
     };
     let degree = match chance.below(10) {
         0..=4 => chance.between(1, 6),
         5..=7 => chance.between(3, 20),
-        _ => 60,
+        _ => HIGHEST,
     };
-    Plan { terms, degree, letters: chance.between(1, 8) }
+    Plan { terms, degree, letters: chance.some_variables() }
 }
 
 /// A plan for sums that stay small through products.
 pub fn small_plan(chance: &mut Chance) -> Plan {
-    Plan { terms: chance.between(0, 5), degree: chance.between(1, 4), letters: chance.between(1, 8) }
+    Plan { terms: chance.between(0, 5), degree: chance.between(1, 4), letters: chance.some_variables() }
 }
 
 /// A pattern of this degree over the first `letters` letters.

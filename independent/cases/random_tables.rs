@@ -1,8 +1,9 @@
 //! Random formula tables, with shared and unused nodes. The maker knows the refusals, so that it can avoid them.
 
 use super::chance::Chance;
+use super::random_sums::HIGHEST;
 use crate::sums::Sum;
-use crate::table::{next_node, Node, INTEGER, MOST_NODES, POWER, PRODUCT, SUM, VARIABLE};
+use crate::table::{next_node, Node, INTEGER, MOST_NODES, NODE_NUMBERS, POWER, PRODUCT, SUM, VARIABLE};
 
 /// A table being made, with what each node is so far.
 #[derive(Default)]
@@ -14,7 +15,7 @@ pub struct TableMaker {
 
 impl TableMaker {
     pub fn count(&self) -> usize {
-        self.numbers.len() / 3
+        self.numbers.len() / NODE_NUMBERS
     }
 
     /// Adds a node if it is not refused.
@@ -51,7 +52,7 @@ impl TableMaker {
             0..=2 => self.try_node(SUM, first, second),
             3..=5 => self.try_node(PRODUCT, first, second),
             _ => {
-                let exponent = if chance.one_in(10) { chance.below(61) } else { chance.below(4) };
+                let exponent = if chance.one_in(10) { chance.between(0, HIGHEST) } else { chance.below(4) };
                 self.try_node(POWER, first, exponent as i64)
             }
         }
@@ -70,7 +71,7 @@ pub fn good_table(chance: &mut Chance) -> Vec<i64> {
 }
 
 pub fn good_table_of(chance: &mut Chance, count: usize) -> Vec<i64> {
-    let letters = chance.between(1, 8);
+    let letters = chance.some_variables();
     let mut maker = TableMaker::default();
     // Often two letters added up to begin with, so that sums of many terms grow from them.
     if count > 4 && chance.percent(70) {

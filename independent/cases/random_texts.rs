@@ -1,6 +1,9 @@
 //! Random texts by 01's grammar.
 
 use super::chance::Chance;
+use super::random_sums::{HIGHEST, MOST_WEIGHT};
+use crate::sums::FIRST_LETTER;
+use crate::text::DEEPEST_BRACKETS;
 
 /// How much may still be written: factors, and brackets inside brackets.
 pub struct TextMaker {
@@ -18,8 +21,8 @@ impl TextMaker {
             14..=18 => chance.between(6, 18),
             _ => chance.between(15, 40),
         };
-        let depth = if chance.one_in(12) { 16 } else { chance.between(0, 4) };
-        TextMaker { factors, depth, letters: chance.between(1, 8), exponent: chance.between(1, 4) }
+        let depth = if chance.one_in(12) { DEEPEST_BRACKETS } else { chance.between(0, 4) };
+        TextMaker { factors, depth, letters: chance.some_variables(), exponent: chance.between(1, 4) }
     }
 
     pub fn sum(&mut self, chance: &mut Chance) -> String {
@@ -48,7 +51,7 @@ impl TextMaker {
         self.factors = self.factors.saturating_sub(1);
         let mut text = self.atom(chance);
         if chance.one_in(4) {
-            let exponent = if chance.one_in(20) { chance.below(61) } else { chance.between(0, self.exponent) };
+            let exponent = if chance.one_in(20) { chance.between(0, HIGHEST) } else { chance.between(0, self.exponent) };
             text.push_str(&format!("^{exponent}"));
         }
         text
@@ -64,14 +67,14 @@ impl TextMaker {
         if chance.one_in(3) {
             return number(chance).to_string();
         }
-        char::from(b'a' + chance.below(self.letters) as u8).to_string()
+        char::from(FIRST_LETTER + chance.below(self.letters) as u8).to_string()
     }
 }
 
 fn number(chance: &mut Chance) -> u64 {
     match chance.below(30) {
-        0 => 1 << 62,
-        1 => chance.up_to(1 << 62),
+        0 => MOST_WEIGHT,
+        1 => chance.up_to(MOST_WEIGHT),
         2 => chance.sized(1, 61),
         3 => 0,
         _ => chance.between(0, 12) as u64,

@@ -1,24 +1,26 @@
-//! Cases of estimate: readings and tolerances.
+//! Packed sums, readings and tolerances for cases of estimate.
 
 use super::chance::Chance;
-use super::lengths;
-use super::random_sums::{in_order, pattern_of_degree, sum_from, Plan};
-use super::unpacks::{damaged_packed, some_packed};
-use crate::lines::Case;
+use super::packed_sums::{damaged_packed, some_packed};
+use super::random_sums::{in_order, pattern_of_degree, sum_from, Plan, HIGHEST};
+use crate::estimate::READING_BYTES;
 use crate::packed::packed;
-use crate::sums::{Pattern, Sum, Term};
+use crate::sums::{Pattern, Sum, Term, MOST_TERMS, VARIABLES};
 use std::collections::BTreeSet;
 
 struct Numbers {
-    readings: [i16; 8],
-    tolerances: [i16; 8],
+    readings: [i16; VARIABLES],
+    tolerances: [i16; VARIABLES],
 }
 
 fn bytes_of(numbers: &[i16]) -> Vec<u8> {
     numbers.iter().flat_map(|number| number.to_le_bytes()).collect()
 }
 
-pub fn estimate_case(chance: &mut Chance) -> Case {
+/// The packed sum, and the bytes of readings and tolerances.
+type Fields = (Vec<u8>, Vec<u8>, Vec<u8>);
+
+pub fn some_estimate(chance: &mut Chance) -> Fields {
     let (sum, numbers) = match chance.below(100) {
         0..=29 => (low_sum(chance), any_numbers(chance)),
         30..=44 => (some_packed(chance), low_numbers(chance)),
@@ -29,20 +31,19 @@ pub fn estimate_case(chance: &mut Chance) -> Case {
         84..=86 => long_sum(chance),
         _ => return reading_fault(chance),
     };
-    let (readings, tolerances) = (bytes_of(&numbers.readings), bytes_of(&numbers.tolerances));
-    Case::Estimate { sum, readings, tolerances, answer: lengths::answer(chance) }
+    (sum, bytes_of(&numbers.readings), bytes_of(&numbers.tolerances))
 }
 
 /// Low degree, so that large readings stay in range.
 fn low_sum(chance: &mut Chance) -> Vec<u8> {
-    let plan = Plan { terms: chance.between(0, 8), degree: chance.between(0, 4), letters: chance.between(1, 8) };
+    let plan = Plan { terms: chance.between(0, 8), degree: chance.between(0, 4), letters: chance.some_variables() };
     packed(&sum_from(chance, plan))
 }
 
 fn any_numbers(chance: &mut Chance) -> Numbers {
     let mut numbers = low_numbers(chance);
     let size = chance.between(1, 15);
-    for index in 0..8 {
+    for index in 0..VARIABLES {
         numbers.readings[index] = match chance.below(12) {
             0 => 0,
             1 => i16::MIN,
@@ -70,21 +71,21 @@ fn low_numbers(chance: &mut Chance) -> Numbers {
 /// More than sixteen terms with high powers: one letter with a raised reading of 2 and more, the others with 0 or 1. The
 /// largest power keeps the total in range, mostly.
 fn long_sum(chance: &mut Chance) -> (Vec<u8>, Numbers) {
-    let letter = chance.below(8);
+    let letter = chance.variable();
     let mut numbers = low_numbers(chance);
-    for index in 0..8 {
+    for index in 0..VARIABLES {
         (numbers.readings[index], numbers.tolerances[index]) = chance.pick(&[(1, 0), (-1, 0), (-1, 0), (0, 1), (0, 0)]);
     }
-    let (raised, most) = chance.pick(&[(2, 50), (2, 60), (3, 32), (3, 33), (6, 20), (12, 14), (300, 6)]);
+    let (raised, most) = chance.pick(&[(2, 50), (2, HIGHEST), (3, 32), (3, 33), (6, 20), (12, 14), (300, 6)]);
     let tolerance = if chance.one_in(2) { 0 } else { chance.below(raised + 1) };
     numbers.readings[letter] = chance.signed((raised - tolerance) as i64) as i16;
     numbers.tolerances[letter] = tolerance as i16;
-    let count = if chance.one_in(4) { chance.between(16, 18) } else { chance.between(17, 128) };
+    let count = if chance.one_in(4) { chance.between(16, 18) } else { chance.between(17, MOST_TERMS) };
     let mut patterns = BTreeSet::new();
     while patterns.len() < count {
         let power = chance.between(0, most);
-        let others = chance.below(61 - power);
-        patterns.insert(pattern_of_degree(chance, others, 8).with(letter, power as u8));
+        let others = chance.between(0, HIGHEST - power);
+        patterns.insert(pattern_of_degree(chance, others, VARIABLES).with(letter, power as u8));
     }
     let terms = patterns.into_iter().map(|pattern| {
         let size = chance.between(1, 9) as i64;
@@ -147,9 +148,9 @@ fn zero_factor(chance: &mut Chance) -> (Vec<u8>, Numbers) {
     numbers.tolerances[zero] = 0;
     let mut terms = Vec::new();
     for _ in 0..chance.between(1, 4) {
-        let degree = chance.between(1, 59);
-        let power = chance.between(1, 60 - degree) as u8;
-        let pattern = pattern_of_degree(chance, degree, 8).with(zero, power);
+        let degree = chance.between(1, HIGHEST - 1);
+        let power = chance.between(1, HIGHEST - degree) as u8;
+        let pattern = pattern_of_degree(chance, degree, VARIABLES).with(zero, power);
         let size = 1 << chance.below(58);
         terms.push(Term { coefficient: chance.signed(size), pattern });
     }
@@ -158,7 +159,7 @@ fn zero_factor(chance: &mut Chance) -> (Vec<u8>, Numbers) {
     if chance.one_in(6) {
         // The zero only looks like one: a tolerance of 1, or the term does not hold the letter.
         numbers.tolerances[zero] = chance.between(0, 1) as i16;
-        let other = pattern_of_degree(chance, 20, 8).with(zero, 0);
+        let other = pattern_of_degree(chance, 20, VARIABLES).with(zero, 0);
         terms.push(Term { coefficient: 1, pattern: other });
     }
     let mut sum: Sum = in_order(terms);
@@ -166,20 +167,21 @@ fn zero_factor(chance: &mut Chance) -> (Vec<u8>, Numbers) {
     (packed(&sum), numbers)
 }
 
-fn reading_fault(chance: &mut Chance) -> Case {
+fn reading_fault(chance: &mut Chance) -> Fields {
     let sum = if chance.one_in(8) { damaged_packed(chance) } else { low_sum(chance) };
     let mut numbers = any_numbers(chance);
     if chance.percent(70) {
-        let index = chance.below(8);
+        let index = chance.variable();
         numbers.tolerances[index] = chance.pick(&[-1, -1, i16::MIN, -256, -32_767]);
         // Later ones do not matter.
-        if index < 7 && chance.one_in(2) {
-            numbers.tolerances[chance.between(index, 7)] = -1;
+        if chance.one_in(2) {
+            numbers.tolerances[chance.between(index, VARIABLES - 1)] = -1;
         }
     }
     let mut readings = bytes_of(&numbers.readings);
     let mut tolerances = bytes_of(&numbers.tolerances);
-    let lengths = [0, 1, 14, 15, 15, 17, 17, 18, 32];
+    let right = READING_BYTES;
+    let lengths = [0, 1, right - 2, right - 1, right - 1, right + 1, right + 1, right + 2, 2 * right];
     match chance.below(6) {
         0 => readings.resize(chance.pick(&lengths), 0),
         1 => tolerances.resize(chance.pick(&lengths), 0xff),
@@ -189,5 +191,5 @@ fn reading_fault(chance: &mut Chance) -> Case {
         }
         _ => {}
     }
-    Case::Estimate { sum, readings, tolerances, answer: lengths::answer(chance) }
+    (sum, readings, tolerances)
 }

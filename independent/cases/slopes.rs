@@ -1,15 +1,13 @@
-//! Cases of slope.
+//! Packed sums and variables for cases of slope.
 
 use super::chance::Chance;
-use super::lengths;
-use super::random_sums::{in_order, sum_from, Plan, MOST_WEIGHT};
-use super::unpacks::{damaged_packed, full_sum, some_packed};
-use crate::lines::Case;
+use super::packed_sums::{damaged_packed, full_sum, some_packed};
+use super::random_sums::{in_order, sum_from, Plan, HIGHEST, MOST_WEIGHT};
 use crate::packed::packed;
-use crate::sums::{Pattern, Term};
+use crate::sums::{Pattern, Term, MOST_TERMS, VARIABLES};
 
-pub fn slope_case(chance: &mut Chance) -> Case {
-    let mut variable = chance.below(8) as u64;
+pub fn some_slope(chance: &mut Chance) -> (Vec<u8>, u64) {
+    let mut variable = chance.variable() as u64;
     let sum = match chance.below(100) {
         0..=49 => some_packed(chance),
         50..=64 => damaged_packed(chance),
@@ -17,7 +15,7 @@ pub fn slope_case(chance: &mut Chance) -> Case {
         80..=82 => packed(&full_sum(chance)),
         83..=84 => many_terms(chance, variable as usize),
         _ => {
-            variable = chance.pick(&[8, 8, 9, 255, 256, 263, 1 << 32, 1 << 63, u64::MAX]);
+            variable = no_variable(chance);
             if chance.one_in(4) {
                 damaged_packed(chance)
             } else {
@@ -25,13 +23,19 @@ pub fn slope_case(chance: &mut Chance) -> Case {
             }
         }
     };
-    Case::Slope { sum, variable, result: lengths::result(chance) }
+    (sum, variable)
+}
+
+/// A number that no variable has; some would have one if they were cut to fewer bits.
+fn no_variable(chance: &mut Chance) -> u64 {
+    let next = VARIABLES as u64;
+    chance.pick(&[next, next, next + 1, 255, 256, 255 + next, 1 << 32, 1 << 63, u64::MAX])
 }
 
 /// Coefficient times power adds up to 2^62 or a little above or below it, over one or more terms.
 fn weight_edge(chance: &mut Chance, variable: usize) -> Vec<u8> {
     let aim = MOST_WEIGHT + chance.below(3) as u64 - 1;
-    let power = chance.between(1, 60) as u64;
+    let power = chance.between(1, HIGHEST) as u64;
     let first = aim / power;
     let mut terms = vec![Term { coefficient: chance.signed(first as i64), pattern: pure(variable, power) }];
     // The rest is smaller than the power: one more term with that coefficient and power 1 makes up the aim exactly.
@@ -44,14 +48,15 @@ fn weight_edge(chance: &mut Chance, variable: usize) -> Vec<u8> {
     }
     // A term without the variable weighs nothing in the slope.
     if chance.one_in(2) && power > 1 {
-        terms.push(Term { coefficient: chance.signed(5), pattern: Pattern::letter((variable + 1) % 8) });
+        terms.push(Term { coefficient: chance.signed(5), pattern: Pattern::letter((variable + 1) % VARIABLES) });
     }
     packed(&in_order(terms))
 }
 
-/// Up to 128 terms that all have the variable, so that the slope has as many.
+/// Many terms that all have the variable, so that the slope has as many.
 fn many_terms(chance: &mut Chance, variable: usize) -> Vec<u8> {
-    let plan = Plan { terms: chance.between(100, 128), degree: chance.between(10, 59), letters: 8 };
+    let (terms, degree) = (chance.between(100, MOST_TERMS), chance.between(10, HIGHEST - 1));
+    let plan = Plan { terms, degree, letters: VARIABLES };
     let mut sum = sum_from(chance, plan);
     for term in &mut sum.terms {
         term.pattern = term.pattern.product(&Pattern::letter(variable));

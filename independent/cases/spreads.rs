@@ -1,10 +1,10 @@
-//! Substitutions that meet a spread of 128 or 129, in a step of a power or in all terms' products together.
+//! Substitutions that meet the largest spread or one more, in a step of a power or in all terms' products together.
 
 use super::chance::Chance;
 use super::lists::Substitution;
 use super::random_sums::in_order;
 use crate::change::Pair;
-use crate::sums::{Pattern, Sum, Term};
+use crate::sums::{Pattern, Sum, Term, MOST_TERMS, VARIABLES};
 
 /// Sums (coefficient, power of one letter, power of another) whose fourth power meets exactly 128 patterns in its last
 /// step, because a pattern that cancelled in an earlier step is no operand any more; with that one it would be 129.
@@ -96,7 +96,7 @@ fn together(chance: &mut Chance) -> Substitution {
 }
 
 /// Different patterns in two letters that nothing else uses.
-fn rest(letters: &[usize; 8], index: usize) -> Pattern {
+fn rest(letters: &[usize; VARIABLES], index: usize) -> Pattern {
     pure(letters[1], index % 8).product(&pure(letters[2], index / 8))
 }
 
@@ -113,8 +113,8 @@ fn cancelling(chance: &mut Chance) -> Substitution {
     let mut sum: Vec<Term> = (1..inside).map(|power| term(1, pure(letters[4], power))).collect();
     sum.push(term(1, Pattern::letter(letters[3])));
     if chance.one_in(4) {
-        // One more pattern makes 129 of 128.
-        terms.truncate(127);
+        // One more pattern makes one too many.
+        terms.truncate(MOST_TERMS - 1);
         terms.push(term(7, pure(letters[5], 1)));
     }
     Substitution { sum: in_order(terms), pairs: vec![Pair { variable: letters[0], sum: in_order(sum) }] }
@@ -146,7 +146,7 @@ fn lost_in_step(chance: &mut Chance) -> Substitution {
 /// A sum of letters put into a power: 8 letters cubed are 120 patterns, 9 terms cubed 165, and so on.
 fn letters_put_in(chance: &mut Chance) -> Substitution {
     let letters = chance.letters();
-    let count = chance.between(2, 8);
+    let count = chance.between(2, VARIABLES);
     let mut inside: Vec<Term> = letters[..count].iter().map(|&letter| term(1, Pattern::letter(letter))).collect();
     if chance.one_in(3) {
         inside.push(term(-1, Pattern::empty()));

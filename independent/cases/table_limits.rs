@@ -1,25 +1,28 @@
-//! Tables on both sides of degree 60 and weight 2^62. The last node written decides; idle nodes before it move its index.
+//! Tables on both sides of the largest degree and weight. The last node written decides; idle nodes before it move its
+//! index.
 
 use super::chance::Chance;
-use super::random_sums::MOST_WEIGHT;
+use super::random_sums::{HIGHEST, MOST_WEIGHT};
 use super::table_writer::{shifted, Writer};
+use crate::sums::VARIABLES;
 
 const MOST: i64 = MOST_WEIGHT as i64;
 
 pub fn degree_edge(chance: &mut Chance) -> Vec<i64> {
     let letters = chance.letters();
-    let aim = chance.pick(&[59, 60, 60, 61, 61, 62]);
+    let aim = HIGHEST + chance.pick(&[0, 1, 1, 2, 2, 3]) - 1;
     let mut writer = Writer::default();
     match chance.below(5) {
         0 => {
-            let first = chance.between(aim - 59, 59);
+            let first = chance.between(aim + 1 - HIGHEST, HIGHEST - 1);
             let left = writer.letter_power(letters[0], first);
             let right = writer.letter_power(letters[1], aim - first);
             writer.product(left, right);
         }
         1 => {
-            let powers = [(30, 2), (2, 30), (12, 5), (31, 2), (2, 31), (8, 8), (60, 1), (60, 2), (7, 9), (60, 60)];
-            let (inner, outer) = chance.pick(&powers);
+            let (inner, outer) = chance.pick(&[
+                (30, 2), (2, 30), (12, 5), (31, 2), (2, 31), (8, 8), (7, 9), (HIGHEST, 1), (HIGHEST, 2), (HIGHEST, HIGHEST),
+            ]);
             let base = writer.letter_power(letters[0], inner);
             writer.power(base, outer);
         }
@@ -33,8 +36,8 @@ pub fn degree_edge(chance: &mut Chance) -> Vec<i64> {
         _ => {
             // Integers have degree 0, so their powers and products never add to it.
             let base = writer.integer(chance.pick(&[0, 1, -1]));
-            let left = writer.power(base, 60);
-            let right = writer.letter_power(letters[0], 60);
+            let left = writer.power(base, HIGHEST);
+            let right = writer.letter_power(letters[0], HIGHEST);
             writer.product(left, right);
         }
     }
@@ -42,7 +45,7 @@ pub fn degree_edge(chance: &mut Chance) -> Vec<i64> {
 }
 
 /// Formal, not actual: a - a has degree 1 though it is zero.
-fn degree_of_zero(writer: &mut Writer, letters: &[usize; 8], aim: usize) {
+fn degree_of_zero(writer: &mut Writer, letters: &[usize; VARIABLES], aim: usize) {
     let plus = writer.letter(letters[0]);
     let minus = writer.term(-1, letters[0], 1);
     let zero = writer.sum(plus, minus);
@@ -69,7 +72,7 @@ fn weight_of_sum(chance: &mut Chance, writer: &mut Writer) {
     let first = chance.pick(&[1, 1 << 61, MOST, 1 + chance_size(MOST)]);
     let second = MOST - first + chance.below(2) as i64;
     let (first, second) = (chance.signed(first), chance.signed(second));
-    let letter = chance.below(8);
+    let letter = chance.variable();
     let left = if chance.one_in(2) { writer.integer(first) } else { writer.term(first, letter, 1) };
     let right = if chance.one_in(2) { writer.integer(second) } else { writer.term(second, letter, 2) };
     writer.sum(left, right);
@@ -93,7 +96,7 @@ fn weight_of_product(chance: &mut Chance, writer: &mut Writer) {
         (3, MOST / 3 + 1),
     ]);
     let (first, second) = (chance.signed(first), chance.signed(second));
-    let letter = chance.below(8);
+    let letter = chance.variable();
     let left = if chance.one_in(2) { writer.integer(first) } else { writer.term(first, letter, 1) };
     let right = if chance.one_in(2) { writer.integer(second) } else { writer.term(second, letter, 2) };
     if chance.one_in(2) {
@@ -106,9 +109,9 @@ fn weight_of_product(chance: &mut Chance, writer: &mut Writer) {
 /// 4^31 and (2^31)^2 are 2^62; 3^39 is below it and 3^40 above; large bases would pass 128 bits.
 fn weight_of_power(chance: &mut Chance, writer: &mut Writer) {
     let (base, exponent) = chance.pick(&[
-        (4, 31), (4, 32), (4, 60), (2, 60), (1 << 31, 2), ((1 << 31) + 1, 2), (3, 39), (3, 40), (MOST, 0), (MOST, 1),
-        (MOST, 2), (MOST, 60), (1, 60), (0, 60), (0, 0), (1 << 15, 4), (1 << 16, 4), (1 << 20, 3), (1 << 21, 3),
-        (1_664_510, 3), (1_664_511, 3),
+        (4, 31), (4, 32), (4, HIGHEST), (2, HIGHEST), (1 << 31, 2), ((1 << 31) + 1, 2), (3, 39), (3, 40), (MOST, 0),
+        (MOST, 1), (MOST, 2), (MOST, HIGHEST), (1, HIGHEST), (0, HIGHEST), (0, 0), (1 << 15, 4), (1 << 16, 4), (1 << 20, 3),
+        (1 << 21, 3), (1_664_510, 3), (1_664_511, 3),
     ]);
     let base = chance.signed(base);
     let letters = chance.letters();
@@ -162,7 +165,7 @@ pub fn several_refusals(chance: &mut Chance) -> Vec<i64> {
     let mut writer = Writer::default();
     let high = chance.pick(&[1, 1, 15, 16, 20]);
     let heavy = chance.pick(&[1, 1, 1 << 13, 1 << 17, 1 << 40, MOST - 8]);
-    let wide = chance.pick(&[1, 2, 7, 7]);
+    let wide = chance.pick(&[1, 2, VARIABLES - 1, VARIABLES - 1]);
     let mut base = writer.term(chance.signed(heavy), letters[0], high);
     for &letter in &letters[1..=wide] {
         let right = writer.letter(letter);

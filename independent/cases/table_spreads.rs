@@ -1,4 +1,4 @@
-//! Tables on both sides of a spread of 128: sums, products and steps of powers, also where patterns cancel.
+//! Tables on both sides of the largest spread: sums, products and steps of powers, also where patterns cancel.
 
 use super::chance::Chance;
 use super::spreads::LOSING;

@@ -1,7 +1,8 @@
 //! Tables written node by node, whether they are refused or not.
 
 use super::chance::Chance;
-use crate::table::{INTEGER, MOST_NODES, POWER, PRODUCT, SUM, VARIABLE};
+use super::random_sums::{HIGHEST, MOST_WEIGHT};
+use crate::table::{INTEGER, MOST_NODES, NODE_NUMBERS, POWER, PRODUCT, SUM, VARIABLE};
 
 /// A table written node by node, refused or not.
 #[derive(Default)]
@@ -12,7 +13,7 @@ pub struct Writer {
 impl Writer {
     pub fn node(&mut self, kind: i64, first: i64, second: i64) -> i64 {
         self.numbers.extend([kind, first, second]);
-        self.numbers.len() as i64 / 3 - 1
+        (self.numbers.len() / NODE_NUMBERS) as i64 - 1
     }
 
     pub fn integer(&mut self, value: i64) -> i64 {
@@ -82,13 +83,13 @@ impl Writer {
 
 /// Puts idle nodes before the table, shifts its children, and now and then puts nodes after it.
 pub fn shifted(chance: &mut Chance, table: Vec<i64>) -> Vec<i64> {
-    let room = MOST_NODES.saturating_sub(table.len() / 3);
+    let room = MOST_NODES.saturating_sub(table.len() / NODE_NUMBERS);
     let before = if chance.one_in(3) { 0 } else { chance.below(room + 1) } as i64;
     let mut numbers = Vec::new();
     for _ in 0..before {
-        numbers.extend([VARIABLE, chance.below(8) as i64, 0]);
+        numbers.extend([VARIABLE, chance.variable() as i64, 0]);
     }
-    for node in table.chunks(3) {
+    for node in table.chunks(NODE_NUMBERS) {
         let [kind, first, second] = [node[0], node[1], node[2]];
         numbers.extend(match kind {
             SUM | PRODUCT => [kind, first + before, second + before],
@@ -96,9 +97,10 @@ pub fn shifted(chance: &mut Chance, table: Vec<i64>) -> Vec<i64> {
             _ => [kind, first, second],
         });
     }
-    if numbers.len() / 3 < MOST_NODES && chance.one_in(5) {
+    if numbers.len() / NODE_NUMBERS < MOST_NODES && chance.one_in(5) {
         // A fault that is reached only if the table before it is accepted.
-        numbers.extend(chance.pick(&[[INTEGER, 1 << 62, 0], [9, 0, 0], [SUM, 0, 0], [POWER, 0, 60], [PRODUCT, -1, 0]]));
+        let (heavy, high) = ([INTEGER, MOST_WEIGHT as i64, 0], [POWER, 0, HIGHEST as i64]);
+        numbers.extend(chance.pick(&[heavy, high, [9, 0, 0], [SUM, 0, 0], [PRODUCT, -1, 0]]));
     }
     numbers
 }

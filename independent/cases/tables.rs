@@ -1,17 +1,17 @@
-//! Cases of simplify: random tables, tables with one number changed, and tables at a limit.
+//! Tables for cases of simplify: random ones, some with one number changed, and some at a limit.
 
 use super::chance::Chance;
-use super::lengths;
+use super::random_sums::{HIGHEST, MOST_WEIGHT};
 use super::random_tables::{good_table, good_table_of};
 use super::random_texts::any_text;
 use super::table_limits::{degree_edge, several_refusals, weight_edge};
 use super::table_spreads::spread_edge;
-use crate::lines::Case;
-use crate::table::{INTEGER, MOST_NODES, POWER, PRODUCT, SUM, VARIABLE};
-use crate::text::nodes_of;
+use crate::sums::VARIABLES;
+use crate::table::{INTEGER, MOST_NODES, NODE_NUMBERS, POWER, PRODUCT, SUM, VARIABLE};
+use crate::typed::table_of;
 
-pub fn simplify_case(chance: &mut Chance) -> Case {
-    let table = match chance.below(100) {
+pub fn some_table(chance: &mut Chance) -> Vec<i64> {
+    match chance.below(100) {
         0..=29 => good_table(chance),
         30..=39 => typed_table(chance),
         40..=49 => one_number_changed(chance),
@@ -22,26 +22,32 @@ pub fn simplify_case(chance: &mut Chance) -> Case {
         78..=88 => weight_edge(chance),
         89..=97 => spread_edge(chance),
         _ => random_numbers(chance),
-    };
-    let result = lengths::result(chance);
-    Case::Simplify { table, result, patterns: lengths::work(chance), coefficients: lengths::work(chance) }
+    }
 }
 
+/// The largest numbers that a node may have.
+const LAST_VARIABLE: i64 = VARIABLES as i64 - 1;
+const LARGEST_EXPONENT: i64 = HIGHEST as i64;
+const LARGEST_INTEGER: i64 = MOST_WEIGHT as i64;
+
 fn typed_table(chance: &mut Chance) -> Vec<i64> {
-    let text = any_text(chance);
-    nodes_of(text.as_bytes()).expect("made by the grammar").concat()
+    table_of(&any_text(chance))
 }
 
 /// Any of the three numbers of any node.
 fn one_number_changed(chance: &mut Chance) -> Vec<i64> {
     let mut table = good_table(chance);
     let place = chance.below(table.len());
-    let node = (place / 3) as i64;
+    let node = (place / NODE_NUMBERS) as i64;
     let near = chance.pick(&[-1, 1]);
     table[place] = match chance.below(4) {
         0 => table[place].wrapping_add(near),
-        1 => chance.pick(&[node - 1, node, node + 1, 0, 7, 8, 60, 61]),
-        2 => chance.pick(&[i64::MIN, i64::MAX, -1, 1 << 32, 1 << 62, (1 << 62) + 1, 256, -256]),
+        1 => {
+            let limits = [LAST_VARIABLE, LAST_VARIABLE + 1, LARGEST_EXPONENT, LARGEST_EXPONENT + 1];
+            let all = [&[node - 1, node, node + 1, 0], &limits[..]].concat();
+            chance.pick(&all)
+        }
+        2 => chance.pick(&[i64::MIN, i64::MAX, -1, 1 << 32, LARGEST_INTEGER, LARGEST_INTEGER + 1, 256, -256]),
         _ => chance.below(10) as i64,
     };
     table
@@ -53,7 +59,7 @@ fn broken_node(chance: &mut Chance) -> Vec<i64> {
     let mut table = good_table_of(chance, count);
     let node = if chance.one_in(2) { count - 1 } else { chance.below(count) };
     let numbers = bad_numbers(chance, node as i64);
-    table[3 * node..3 * node + 3].copy_from_slice(&numbers);
+    table[NODE_NUMBERS * node..][..NODE_NUMBERS].copy_from_slice(&numbers);
     table
 }
 
@@ -68,7 +74,7 @@ fn outside(chance: &mut Chance, least: i64, most: i64) -> i64 {
     }
 }
 
-fn bad_numbers(chance: &mut Chance, node: i64) -> [i64; 3] {
+fn bad_numbers(chance: &mut Chance, node: i64) -> [i64; NODE_NUMBERS] {
     // With no earlier node every child is a fault; -1 is the largest allowed one.
     let child = if node > 0 { chance.below(node as usize) as i64 } else { 0 };
     let no_child = outside(chance, 0, node - 1);
@@ -78,17 +84,17 @@ fn bad_numbers(chance: &mut Chance, node: i64) -> [i64; 3] {
         0 => [outside(chance, INTEGER, POWER), child, child],
         1 => [INTEGER, 3, not_zero],
         2 => [VARIABLE, 3, not_zero],
-        3 => [VARIABLE, outside(chance, 0, 7), 0],
+        3 => [VARIABLE, outside(chance, 0, LAST_VARIABLE), 0],
         4 => [binary, no_child, child],
         5 => [binary, child, no_child],
         6 => [POWER, no_child, 2],
-        _ => [POWER, child, outside(chance, 0, 60)],
+        _ => [POWER, child, outside(chance, 0, LARGEST_EXPONENT)],
     }
 }
 
-/// Lengths that are not three times 1 to 64, and 64 nodes, which are allowed.
+/// Lengths that are not three numbers for each of 1 to `MOST_NODES` nodes, and as many nodes as are allowed.
 fn wrong_length(chance: &mut Chance) -> Vec<i64> {
-    let count = chance.pick(&[1, 2, 5, 63, 64]);
+    let count = chance.pick(&[1, 2, 5, MOST_NODES - 1, MOST_NODES]);
     let mut table = good_table_of(chance, count);
     match chance.below(6) {
         0 => table.clear(),
@@ -97,7 +103,7 @@ fn wrong_length(chance: &mut Chance) -> Vec<i64> {
             table.pop();
         }
         3 => table.extend([VARIABLE, 0, 0]),
-        4 if count >= 63 => table.extend([VARIABLE, 0, 0, VARIABLE, 1, 0]),
+        4 if count >= MOST_NODES - 1 => table.extend([VARIABLE, 0, 0, VARIABLE, 1, 0]),
         4 => table.truncate(2),
         _ => {}
     }
@@ -105,6 +111,6 @@ fn wrong_length(chance: &mut Chance) -> Vec<i64> {
 }
 
 fn random_numbers(chance: &mut Chance) -> Vec<i64> {
-    let count = 3 * chance.between(1, 6);
+    let count = NODE_NUMBERS * chance.between(1, 6);
     (0..count).map(|_| if chance.one_in(9) { chance.word() as i64 } else { chance.between(0, 6) as i64 - 1 }).collect()
 }

@@ -1,18 +1,27 @@
-//! Cases of text: allowed texts, damaged ones, and both sides of each limit.
+//! Texts for cases of text: allowed ones, damaged ones, and both sides of each limit.
 
 use super::chance::Chance;
-use super::lengths;
+use super::random_sums::MOST_WEIGHT;
 use super::random_texts::any_text;
-use crate::lines::Case;
-use crate::text::nodes_of;
+use crate::sums::{FIRST_LETTER, LAST_LETTER};
+use crate::table::MOST_NODES;
+use crate::text::{DEEPEST_BRACKETS, LONGEST_TEXT};
+use crate::typed::node_count;
 
-const ALPHABET: &[u8] = b"aabcdefgh0123456789++--**^^(())(";
+/// Every number of so many digits is below 2^62.
+const DIGITS: usize = 18;
 
-pub fn text_case(chance: &mut Chance) -> Case {
-    let text = match chance.below(200) {
+/// A byte that an allowed text may have.
+fn some_byte(chance: &mut Chance) -> u8 {
+    let letters: Vec<u8> = (FIRST_LETTER..=LAST_LETTER).collect();
+    chance.pick(&[b"a", &letters[..], b"0123456789++--**^^(())("].concat())
+}
+
+pub fn some_text(chance: &mut Chance) -> Vec<u8> {
+    match chance.below(200) {
         0..=75 => any_text(chance).into_bytes(),
         76..=109 => damaged(chance),
-        110..=119 => (0..chance.below(9)).map(|_| chance.pick(ALPHABET)).collect(),
+        110..=119 => (0..chance.below(9)).map(|_| some_byte(chance)).collect(),
         120..=124 => {
             let mut text = any_text(chance).into_bytes();
             text.truncate(chance.below(text.len() + 1));
@@ -25,15 +34,16 @@ pub fn text_case(chance: &mut Chance) -> Case {
         185..=188 => exact_length(chance),
         189..=190 => too_long(chance),
         _ => minus_and_caret(chance).into_bytes(),
-    };
-    Case::Text { text, table: lengths::table(chance) }
+    }
 }
 
 /// One byte changed, put in or taken out.
 fn damaged(chance: &mut Chance) -> Vec<u8> {
     let mut text = any_text(chance).into_bytes();
     let place = chance.below(text.len());
-    let byte = if chance.one_in(4) { chance.word() as u8 } else { chance.pick(b"a0i9+-*^() A/:`\n\xff") };
+    // The letter after the last variable's is no more allowed than any other byte.
+    let bytes = [&[LAST_LETTER, LAST_LETTER + 1], &b"a09+-*^() A/:`\n\xff"[..]].concat();
+    let byte = if chance.one_in(4) { chance.word() as u8 } else { chance.pick(&bytes) };
     match chance.below(4) {
         0 => text[place] = byte,
         1 => text.insert(place, byte),
@@ -42,19 +52,19 @@ fn damaged(chance: &mut Chance) -> Vec<u8> {
         }
         _ => {
             // Most places are in the middle; the ends are wanted as well.
-            text.push(chance.pick(ALPHABET));
+            text.push(some_byte(chance));
         }
     }
     text
 }
 
-fn node_count(text: &str) -> usize {
-    nodes_of(text.as_bytes()).expect("made by the grammar").len()
-}
-
-/// Exactly 63 to 66 nodes, or a few more; now and then with a fault at the end, which comes before NODES.
+/// About as many nodes as there may be, or a few more; now and then with a fault at the end, which comes before NODES.
 fn of_nodes(chance: &mut Chance) -> Vec<u8> {
-    let aim = if chance.percent(80) { chance.between(62, 66) } else { chance.between(67, 200) };
+    let aim = if chance.percent(80) {
+        chance.between(MOST_NODES - 2, MOST_NODES + 2)
+    } else {
+        chance.between(MOST_NODES + 3, 200)
+    };
     let mut text = any_text(chance);
     if node_count(&text) + 6 > aim {
         text = "b".to_string();
@@ -80,9 +90,9 @@ fn of_nodes(chance: &mut Chance) -> Vec<u8> {
     text.into_bytes()
 }
 
-/// 15 to 18 open brackets, closed as often, once too often or too seldom.
+/// About as many open brackets as there may be, closed as often, once too often or too seldom.
 fn brackets(chance: &mut Chance) -> Vec<u8> {
-    let depth = chance.between(14, 18);
+    let depth = chance.between(DEEPEST_BRACKETS - 2, DEEPEST_BRACKETS + 2);
     let mut text = String::new();
     for _ in 0..depth {
         text.push_str(chance.pick(&["(", "(", "(", "(-", "(a+", "(2*"]));
@@ -103,7 +113,7 @@ fn brackets(chance: &mut Chance) -> Vec<u8> {
 
 /// Decimal numbers around 2^62 and around what 64 bits would wrap to, with zeros before and digits after.
 fn large_number(chance: &mut Chance) -> String {
-    let limit = 1u128 << 62;
+    let limit = u128::from(MOST_WEIGHT);
     let mut number = match chance.below(8) {
         0..=2 => (limit + chance.below(4) as u128 - 2).to_string(),
         3 => (limit + chance.below(20) as u128 - 10).to_string(),
@@ -144,10 +154,10 @@ fn minus_and_caret(chance: &mut Chance) -> String {
     text
 }
 
-/// 1,022 to 1,026 bytes with few nodes: letters in up to sixteen brackets, joined by +, and one number to fill up.
+/// About as many bytes as there may be, with few nodes: letters in many brackets, joined by +, and one number to fill up.
 fn exact_length(chance: &mut Chance) -> Vec<u8> {
-    let aim = chance.between(1022, 1026);
-    let depths = if chance.one_in(4) { 10 } else { 16 };
+    let aim = chance.between(LONGEST_TEXT - 2, LONGEST_TEXT + 2);
+    let depths = if chance.one_in(4) { 10 } else { DEEPEST_BRACKETS };
     let mut text = String::new();
     loop {
         let depth = if chance.one_in(8) { chance.below(depths) } else { depths };
@@ -159,8 +169,8 @@ fn exact_length(chance: &mut Chance) -> Vec<u8> {
         text.push('+');
     }
     let mut left = aim - text.len();
-    // Numbers of at most eighteen digits never pass 2^62.
-    while left > 18 {
+    // So many digits never pass 2^62.
+    while left > DIGITS {
         text.push_str("1+");
         left -= 2;
     }
@@ -174,9 +184,9 @@ fn exact_length(chance: &mut Chance) -> Vec<u8> {
     text.into_bytes()
 }
 
-/// Over 1,024 bytes: the place is 1,024, whatever stands before it.
+/// Too many bytes: the place is the number of those allowed, whatever stands there.
 fn too_long(chance: &mut Chance) -> Vec<u8> {
-    let length = chance.pick(&[1025, 1025, 1026, 1100, 2000]);
+    let length = LONGEST_TEXT + chance.pick(&[1, 1, 2, 76, 976]);
     let byte = chance.pick(b"a(1+\0");
     vec![byte; length]
 }

@@ -1,17 +1,15 @@
-//! Cases of pack: words for patterns and coefficients.
+//! Words of patterns and coefficients for cases of pack.
 
 use super::chance::Chance;
-use super::lengths;
-use super::random_sums::{any_plan, sum_from, Plan, MOST_WEIGHT};
-use super::unpacks::full_sum;
-use crate::lines::Case;
-use crate::sums::{Pattern, Sum};
+use super::packed_sums::full_sum;
+use super::random_sums::{any_plan, sum_from, Plan, HIGHEST, MOST_WEIGHT};
+use crate::sums::{Pattern, Sum, MOST_TERMS, VARIABLES};
 
 /// The two input areas and the count.
-struct Words {
-    count: u64,
-    patterns: Vec<u64>,
-    coefficients: Vec<i64>,
+pub struct Words {
+    pub count: u64,
+    pub patterns: Vec<u64>,
+    pub coefficients: Vec<i64>,
 }
 
 fn words_of(sum: &Sum) -> Words {
@@ -22,7 +20,7 @@ fn words_of(sum: &Sum) -> Words {
     }
 }
 
-pub fn pack_case(chance: &mut Chance) -> Case {
+pub fn some_words(chance: &mut Chance) -> Words {
     let plan = any_plan(chance);
     let mut words = match chance.below(100) {
         0..=7 => words_of(&full_sum(chance)),
@@ -37,13 +35,12 @@ pub fn pack_case(chance: &mut Chance) -> Case {
         77..=87 => change_order(chance, &mut words),
         _ => change_count(chance, &mut words),
     }
-    let Words { count, patterns, coefficients } = words;
-    Case::Pack { count, patterns, coefficients, result: lengths::result(chance) }
+    words
 }
 
-/// 127 to 129 terms: the count, not a term, is the fault at 129.
+/// As many terms as there may be, one less or one more: the count, not a term, is at fault then.
 fn most_terms(chance: &mut Chance) -> Words {
-    let plan = Plan { terms: chance.between(127, 129), degree: 30, letters: 8 };
+    let plan = Plan { terms: chance.between(MOST_TERMS - 1, MOST_TERMS + 1), degree: 30, letters: VARIABLES };
     words_of(&sum_from(chance, plan))
 }
 
@@ -83,12 +80,13 @@ fn change_coefficient(chance: &mut Chance, words: &mut Words) {
 
 fn change_pattern(chance: &mut Chance, words: &mut Words) {
     let Some(index) = some_term(chance, words) else { return };
-    let letter = chance.below(8);
+    let letter = chance.variable();
     let pattern = Pattern::from_word(words.patterns[index]);
-    let others = pattern.with(letter, 0).degree().min(60) as u8;
+    let highest = HIGHEST as u32;
+    let others = pattern.with(letter, 0).degree().min(highest) as u8;
     let exponent = match chance.below(6) {
-        0 => 60 - others,
-        1 | 2 => 61 - others,
+        0 => highest as u8 - others,
+        1 | 2 => highest as u8 + 1 - others,
         3 => 255,
         // The exponents add up to 256 and more: a sum of bytes would wrap.
         4 => 0u8.wrapping_sub(others),
@@ -97,7 +95,7 @@ fn change_pattern(chance: &mut Chance, words: &mut Words) {
     words.patterns[index] = pattern.with(letter, exponent).word();
     if chance.one_in(6) {
         words.patterns[index] = {
-            let small = chance.word_like();
+            let small = small_pattern(chance).word();
             chance.pick(&[small, u64::MAX, 0])
         };
     }
@@ -119,7 +117,8 @@ fn change_order(chance: &mut Chance, words: &mut Words) {
 }
 
 fn change_count(chance: &mut Chance, words: &mut Words) {
-    let large = [128, 129, 130, 256, 1 << 32, (1 << 32) + 1, 1 << 63, u64::MAX, u64::MAX - 1];
+    let most = MOST_TERMS as u64;
+    let large = [most, most + 1, most + 2, 256, 1 << 32, (1 << 32) + 1, 1 << 63, u64::MAX, u64::MAX - 1];
     match chance.below(6) {
         0 | 1 => words.count += 1,
         2 => words.count = words.count.saturating_sub(1),
@@ -133,9 +132,7 @@ fn change_count(chance: &mut Chance, words: &mut Words) {
     }
 }
 
-impl Chance {
-    /// A word of eight small bytes, so that its degree is now and then allowed.
-    fn word_like(&mut self) -> u64 {
-        self.word() & 0x0f0f_0f0f_0f0f_0f0f
-    }
+/// Small exponents, so that the degree is now and then allowed.
+fn small_pattern(chance: &mut Chance) -> Pattern {
+    Pattern::new(std::array::from_fn(|_| chance.below(16) as u8))
 }

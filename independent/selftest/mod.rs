@@ -1,14 +1,14 @@
 //! Checks of this program against second, differently written ways to the same answers.
 
-mod prefixes;
-mod reader;
-mod second;
-mod values;
+pub mod prefixes;
+pub mod reader;
+pub mod second;
+pub mod values;
 
 use crate::cases::chance::Chance;
-use crate::cases::{any_case, odd};
-use crate::lines::{answer, case_line, read_case, Case};
-use crate::operations::Own;
+use crate::cases::{odd, Fresh};
+use crate::lines::{case_line, read_case, run_case, Case};
+use crate::operations::own;
 use std::collections::BTreeMap;
 
 /// What was looked at, by name, and the first few that failed.
@@ -32,11 +32,12 @@ impl Report {
 
 /// The command `selftest`: COUNT rounds, each with a case of any operation and a text, table and sum of its own.
 pub fn run(seed: u64, count: u64) -> bool {
-    let mut chance = Chance::new(seed);
+    let mut fresh = Fresh::new(seed);
+    let mut chance = Chance::named(seed, "selftest");
     let mut report = Report::default();
     for _ in 0..count {
-        let case = any_case(&mut chance);
-        check_case(&case, &mut report);
+        let case = fresh.case();
+        (case.operation.second)(&case.inputs, &run_case(&case, own), &mut report);
         check_line(&mut chance, &case, &mut report);
         prefixes::check_short(&mut chance, &mut report);
         values::check(&mut chance, &mut report);
@@ -48,23 +49,6 @@ pub fn run(seed: u64, count: u64) -> bool {
     report.failed == 0
 }
 
-/// The case's answer line by a second way, where there is one.
-fn check_case(case: &Case, report: &mut Report) {
-    let own = answer(case_line(case).as_bytes(), &Own);
-    match case {
-        Case::Text { text, .. } => prefixes::check(text, report),
-        Case::Simplify { table, .. } => second::check_table(table, &own, report),
-        Case::Unpack { sum, .. } => reader::check_sum(sum, &own, report),
-        Case::Substitute { sum, list, .. } => {
-            reader::check_list(sum, list, &own, report);
-            second::check_substitution(sum, list, &own, report);
-        }
-        Case::Estimate { .. } => second::check_estimate(case, &own, report),
-        Case::Pack { .. } => values::check_pack(case, &own, report),
-        Case::Slope { sum, variable, .. } => second::check_slope(sum, *variable, &own, report),
-    }
-}
-
 /// A line is read as the case it was made from, and an odd line never makes the program stop.
 fn check_line(chance: &mut Chance, case: &Case, report: &mut Report) {
     let line = case_line(case).into_bytes();
@@ -72,7 +56,7 @@ fn check_line(chance: &mut Chance, case: &Case, report: &mut Report) {
     report.expect("a line read and written again", again.as_ref() == Some(&line), || {
         String::from_utf8_lossy(&line).into_owned()
     });
-    let odd = odd::odd_line(chance, line);
+    let odd = odd::odd_line(chance, case);
     // An odd line is either unknown or is itself the line of a case.
     let fits = read_case(&odd).is_none_or(|read| case_line(&read).into_bytes() == odd);
     report.expect("an odd line", fits, || String::from_utf8_lossy(&odd).into_owned());

@@ -3,7 +3,10 @@
 
 use super::Report;
 use crate::cases::chance::Chance;
-use crate::text::nodes_of;
+use crate::fields::Input;
+use crate::operations::other_fields;
+use crate::sums::{FIRST_LETTER, LARGEST_DEGREE, LARGEST_WEIGHT, LAST_LETTER};
+use crate::text::{nodes_of, DEEPEST_BRACKETS};
 use std::collections::BTreeSet;
 
 /// Sets of places grow too large on long texts.
@@ -57,19 +60,19 @@ impl Matcher<'_> {
         let mut ends = atoms.clone();
         for place in atoms {
             if self.at(place) == Some(b'^') {
-                ends.extend(self.number(place + 1, 60));
+                ends.extend(self.number(place + 1, u128::from(LARGEST_DEGREE)));
             }
         }
         ends
     }
 
     fn atom(&mut self, start: usize, depth: usize) -> Ends {
-        let mut ends = self.number(start, 1 << 62);
+        let mut ends = self.number(start, LARGEST_WEIGHT);
         match self.at(start) {
-            Some(b'a'..=b'h') => {
+            Some(FIRST_LETTER..=LAST_LETTER) => {
                 ends.insert(start + 1);
             }
-            Some(b'(') if depth < 16 => {
+            Some(b'(') if depth < DEEPEST_BRACKETS => {
                 for place in self.sum(start + 1, depth + 1) {
                     if self.at(place) == Some(b')') {
                         ends.insert(place + 1);
@@ -105,7 +108,13 @@ fn judged(text: &[u8]) -> (bool, bool) {
     (allowed, matcher.reached_end)
 }
 
-pub fn check(text: &[u8], report: &mut Report) {
+/// The place of a fault, whether the text is refused for it or for its length.
+pub fn check_case(inputs: &[Input], _own: &str, report: &mut Report) {
+    let [Input::Bytes(text)] = inputs else { other_fields() };
+    check(text, report);
+}
+
+fn check(text: &[u8], report: &mut Report) {
     if text.len() > LONGEST {
         return;
     }
@@ -123,6 +132,7 @@ pub fn check(text: &[u8], report: &mut Report) {
 
 /// Short random strings over the bytes of the grammar.
 pub fn check_short(chance: &mut Chance, report: &mut Report) {
-    let text: Vec<u8> = (0..chance.below(10)).map(|_| chance.pick(b"ah0169+-*^()(")).collect();
+    let bytes = [&[FIRST_LETTER, LAST_LETTER], &b"0169+-*^()("[..]].concat();
+    let text: Vec<u8> = (0..chance.below(10)).map(|_| chance.pick(&bytes)).collect();
     check(&text, report);
 }

@@ -2,18 +2,21 @@
 //! the value gives the same bytes again; it keeps patterns as lists of numbers and compares them by 01's words.
 
 use super::Report;
-use crate::fields::show_words;
-use crate::packed::write_number;
+use crate::change::MOST_PAIRS;
+use crate::fields::{show_words, Input};
+use crate::operations::other_fields;
+use crate::packed::{write_number, MOST_GROUPS};
+use crate::sums::{EXPONENT_BITS, LARGEST_DEGREE, MOST_TERMS, VARIABLES};
 
 /// A fault's place, and whether it is a variable number.
 type Fault = (usize, bool);
 
 fn number_at(bytes: &[u8], place: usize) -> Result<(u64, usize), usize> {
     let rest = &bytes[place.min(bytes.len())..];
-    let length = rest.iter().take(10).position(|&byte| byte < 128).map(|last| last + 1);
+    let length = rest.iter().take(MOST_GROUPS).position(|&byte| byte < 128).map(|last| last + 1);
     let Some(length) = length else {
-        // Ten bytes that all ask for more are a fault; fewer are an end.
-        return Err(if rest.len() >= 10 { place } else { bytes.len() });
+        // As many bytes as there may be that all ask for more are a fault; fewer are an end.
+        return Err(if rest.len() >= MOST_GROUPS { place } else { bytes.len() });
     };
     let value = rest[..length].iter().rev().fold(0u128, |value, &byte| value * 128 + u128::from(byte % 128));
     let Ok(value) = u64::try_from(value) else { return Err(place) };
@@ -31,7 +34,7 @@ fn after(first: &[u64], second: &[u64]) -> bool {
     if degrees[0] != degrees[1] {
         return degrees[0] > degrees[1];
     }
-    for letter in 0..8 {
+    for letter in 0..VARIABLES {
         if first[letter] != second[letter] {
             return first[letter] > second[letter];
         }
@@ -44,7 +47,7 @@ type Terms = Vec<(i128, Vec<u64>)>;
 
 fn sum_at(bytes: &[u8], place: usize) -> Result<(Terms, usize), usize> {
     let (count, mut next) = number_at(bytes, place)?;
-    if count > 128 {
+    if count > MOST_TERMS as u64 {
         return Err(place);
     }
     let mut terms: Terms = Vec::new();
@@ -59,9 +62,9 @@ fn sum_at(bytes: &[u8], place: usize) -> Result<(Terms, usize), usize> {
         }
         next = after_code;
         let mut pattern: Vec<u64> = Vec::new();
-        while pattern.len() < 8 {
+        while pattern.len() < VARIABLES {
             let (exponent, after_exponent) = number_at(bytes, next)?;
-            if exponent > 60 - pattern.iter().sum::<u64>() {
+            if exponent > u64::from(LARGEST_DEGREE) - pattern.iter().sum::<u64>() {
                 return Err(next);
             }
             pattern.push(exponent);
@@ -86,12 +89,12 @@ fn whole_sum(bytes: &[u8]) -> Result<Terms, usize> {
 fn whole_list(bytes: &[u8]) -> Result<(), Fault> {
     let plain = |place: usize| (place, false);
     let (count, mut next) = number_at(bytes, 0).map_err(plain)?;
-    if count > 8 {
+    if count > MOST_PAIRS as u64 {
         return Err((0, false));
     }
     for _ in 0..count {
         let (variable, after_variable) = number_at(bytes, next).map_err(plain)?;
-        if variable > 7 {
+        if variable >= VARIABLES as u64 {
             return Err((next, true));
         }
         next = sum_at(bytes, after_variable).map_err(plain)?.1;
@@ -102,14 +105,15 @@ fn whole_list(bytes: &[u8]) -> Result<(), Fault> {
     Ok(())
 }
 
-pub fn check_sum(bytes: &[u8], own: &str, report: &mut Report) {
+pub fn check_sum(inputs: &[Input], own: &str, report: &mut Report) {
+    let [Input::Bytes(bytes)] = inputs else { other_fields() };
     if own.starts_with("refused 1 ") {
         return;
     }
     let expected = match whole_sum(bytes) {
         Err(place) => format!("refused 7 {place} stay stay"),
         Ok(terms) => {
-            let word = |pattern: &Vec<u64>| pattern.iter().fold(0, |word, exponent| word << 8 | exponent);
+            let word = |pattern: &Vec<u64>| pattern.iter().fold(0, |word, exponent| word << EXPONENT_BITS | exponent);
             let patterns: Vec<u64> = terms.iter().map(|(_, pattern)| word(pattern)).collect();
             let coefficients: Vec<u64> = terms.iter().map(|(coefficient, _)| *coefficient as u64).collect();
             format!("done {} {} {} stay stay", terms.len(), show_words(&patterns), show_words(&coefficients))

@@ -1,7 +1,7 @@
 //! Outcomes that 01 states, or docs/DECISIONS.md where 01 can be read in two ways, or a source document, as case lines
-//! with the answer they must get. The same lines begin the stored set. Packed sums come from typed texts by this
-//! program's own readers; the expected bytes come from the ordered sums as they are written in the papers (see
-//! `written`).
+//! with the answer they must get. The same lines begin each operation's part of the stored set. Packed sums come from
+//! typed texts by this program's own readers; the expected bytes come from the ordered sums as they are written in the
+//! papers (see `written`).
 
 mod bytes;
 mod faults;
@@ -13,13 +13,13 @@ mod sources;
 mod texts;
 mod written;
 
-use crate::estimate::ANSWER_ROOM;
-use crate::fields::{show_bytes, show_signed};
+use crate::areas::Use;
+use crate::fields::{show_bytes, show_signed, show_words};
 use crate::lines::{answer, case_line, run_case, Case};
-use crate::operations::Own;
-use crate::packed::{read_sum, write_number, RESULT_ROOM, UNPACK_ROOM};
-use crate::table::WORK_ROOM;
-use crate::text::{nodes_of, TABLE_ROOM};
+use crate::operations::{estimate, own, pack, simplify, slope, substitute, text, unpack, Operation};
+use crate::packed::read_sum;
+use crate::table::NODE_NUMBERS;
+use crate::typed::{node_count, number_of, table_of};
 use written::as_written;
 
 pub struct Stated {
@@ -46,7 +46,7 @@ pub fn all() -> Vec<Stated> {
 pub fn broken(list: &[Stated]) -> Vec<String> {
     let mut found = Vec::new();
     for stated in list {
-        let got = answer(stated.line.as_bytes(), &Own);
+        let got = answer(stated.line.as_bytes(), own);
         if got != stated.expected {
             found.push(format!("{}\n  {}\n  stated {}\n  got    {got}", stated.why, stated.line, stated.expected));
         }
@@ -74,179 +74,108 @@ pub struct Statements {
     list: Vec<Stated>,
 }
 
-/// A table of a text that is known to be allowed.
-pub fn table_of(text: &str) -> Vec<i64> {
-    nodes_of(text.as_bytes()).expect("an allowed text").concat()
+/// What becomes of the lent areas after every answer but ROOM: results stay where they are not written, work is zero.
+fn usual_fates(operation: &Operation) -> String {
+    let fates = operation.lent.iter().map(|lent| if lent.serves == Use::Work { "zero" } else { "stay" });
+    fates.collect::<Vec<&str>>().join(" ")
 }
 
-/// The packed sum of a text that is known to be accepted, by this program's own simplify.
-pub fn packed_of(text: &str) -> Vec<u8> {
-    let answer = run_case(&simplify_case(table_of(text)), &Own);
-    let words: Vec<&str> = answer.split(' ').collect();
-    assert_eq!(words[0], "done", "{text} is accepted");
-    crate::fields::bytes(words[2].as_bytes()).expect("hex digits")
-}
-
-pub fn simplify_case(table: Vec<i64>) -> Case {
-    Case::Simplify { table, result: RESULT_ROOM, patterns: WORK_ROOM, coefficients: WORK_ROOM }
-}
-
-pub fn substitute_case(sum: &[u8], list: &[u8]) -> Case {
-    let (sum, list) = (sum.to_vec(), list.to_vec());
-    Case::Substitute { sum, list, result: RESULT_ROOM, patterns: WORK_ROOM, coefficients: WORK_ROOM }
-}
-
-pub fn unpack_case(sum: &[u8]) -> Case {
-    Case::Unpack { sum: sum.to_vec(), patterns: UNPACK_ROOM, coefficients: UNPACK_ROOM }
-}
-
-pub fn estimate_case(sum: &[u8], readings: &[i16], tolerances: &[i16]) -> Case {
-    let bytes = |numbers: &[i16]| -> Vec<u8> {
-        let mut all = numbers.to_vec();
-        all.resize(8, 0);
-        all.iter().flat_map(|number| number.to_le_bytes()).collect()
-    };
-    let (readings, tolerances) = (bytes(readings), bytes(tolerances));
-    Case::Estimate { sum: sum.to_vec(), readings, tolerances, answer: ANSWER_ROOM }
-}
-
-/// A list of pairs in bytes.
-pub fn list_of(pairs: &[(u64, &[u8])]) -> Vec<u8> {
-    let mut bytes = Vec::new();
-    write_number(&mut bytes, pairs.len() as u64);
-    for (variable, sum) in pairs {
-        write_number(&mut bytes, *variable);
-        bytes.extend(*sum);
-    }
-    bytes
-}
-
-/// A list typed as letter and text put in.
-pub fn typed_list(pairs: &[(char, &str)]) -> Vec<u8> {
-    let packed: Vec<Vec<u8>> = pairs.iter().map(|(_, text)| packed_of(text)).collect();
-    let numbers = pairs.iter().map(|(letter, _)| u64::from(*letter as u32 - 'a' as u32));
-    let pairs: Vec<(u64, &[u8])> = numbers.zip(packed.iter().map(Vec::as_slice)).collect();
-    list_of(&pairs)
-}
-
+/// These are for every operation.
 impl Statements {
-    /// The general form: this case has this answer.
-    pub fn case(&mut self, why: &str, case: &Case, expected: &str) {
-        self.line(why, &case_line(case), expected);
-    }
-
-    /// Only that it is done is stated; what comes out is this program's own.
-    pub fn accepted(&mut self, why: &str, case: &Case) {
-        let own = run_case(case, &Own);
-        assert!(own.starts_with("done"), "{why}: {own}");
-        self.case(why, case, &own);
-    }
-
+    /// The general form: this line has this answer.
     pub fn line(&mut self, why: &str, line: &str, expected: &str) {
         self.list.push(Stated { line: line.to_string(), expected: expected.to_string(), why: why.to_string() });
     }
 
-    fn done_bytes(&mut self, why: &str, case: &Case, bytes: &[u8], fates: &str) {
-        self.case(why, case, &format!("done {} {} {fates}", bytes.len(), show_bytes(bytes)));
+    pub fn case(&mut self, why: &str, case: &Case, expected: &str) {
+        self.line(why, &case_line(case), expected);
     }
 
+    /// The case is done, with this number, and this is written.
+    pub fn done(&mut self, why: &str, case: &Case, number: usize, written: &str) {
+        self.case(why, case, &format!("done {number} {written} {}", usual_fates(case.operation)));
+    }
+
+    /// The same where the number is that of the bytes written.
+    pub fn done_bytes(&mut self, why: &str, case: &Case, bytes: &[u8]) {
+        self.done(why, case, bytes.len(), &show_bytes(bytes));
+    }
+
+    /// The case is refused, and not for ROOM.
+    pub fn refused(&mut self, why: &str, case: &Case, number: u64, place: usize) {
+        self.case(why, case, &format!("refused {number} {place} {}", usual_fates(case.operation)));
+    }
+
+    /// Only that it is done is stated; what comes out is this program's own.
+    pub fn accepted(&mut self, why: &str, case: &Case) {
+        let ours = run_case(case, own);
+        assert!(ours.starts_with("done"), "{why}: {ours}");
+        self.case(why, case, &ours);
+    }
+}
+
+/// What papers say of formulas, in their own writing.
+impl Statements {
     /// A typed formula is this ordered sum: its text line, its table's line, and the sum's way through unpack and pack.
     pub fn formula(&mut self, why: &str, text: &str, ordered: &str) -> Vec<u8> {
-        let table = self.allowed(why, text);
+        self.allowed(why, text);
         let bytes = as_written(ordered);
-        self.done_bytes(why, &simplify_case(table), &bytes, "stay zero zero");
+        self.done_bytes(why, &simplify::case(&table_of(text)), &bytes);
         self.unpacked_and_packed(why, &bytes);
         bytes
     }
 
+    /// An allowed text whose table is refused.
+    pub fn formula_refused(&mut self, why: &str, text: &str, number: u64, place: usize) {
+        self.allowed(why, text);
+        self.refused(why, &simplify::case(&table_of(text)), number, place);
+    }
+
     /// The text is allowed; its nodes are checked one by one only where a paper states them.
-    fn allowed(&mut self, why: &str, text: &str) -> Vec<i64> {
-        let table = table_of(text);
-        let expected = format!("done {} {} stay", table.len() / 3, show_signed(&table));
-        self.case(why, &Case::Text { text: text.into(), table: TABLE_ROOM }, &expected);
-        table
+    fn allowed(&mut self, why: &str, text: &str) {
+        self.done(why, &text::case(text), node_count(text), &show_signed(&table_of(text)));
     }
 
     /// A text with the number of nodes that a paper gives.
     pub fn nodes(&mut self, why: &str, text: &str, nodes: usize) {
-        assert_eq!(table_of(text).len(), 3 * nodes, "{why}: nodes of {text}");
+        assert_eq!(node_count(text), nodes, "{why}: nodes of {text}");
         self.allowed(why, text);
     }
 
     /// A text with all the numbers of its table.
-    pub fn table(&mut self, why: &str, text: &str, table: &[[i64; 3]]) {
-        let expected = format!("done {} {} stay", table.len(), show_signed(&table.concat()));
-        self.case(why, &Case::Text { text: text.into(), table: TABLE_ROOM }, &expected);
+    pub fn table(&mut self, why: &str, text: &str, table: &[[i64; NODE_NUMBERS]]) {
+        self.done(why, &text::case(text), table.len(), &show_signed(&table.concat()));
+    }
+
+    /// A table is this ordered sum.
+    pub fn table_is(&mut self, why: &str, table: &[i64], ordered: &str) {
+        self.done_bytes(why, &simplify::case(table), &as_written(ordered));
     }
 
     fn unpacked_and_packed(&mut self, why: &str, bytes: &[u8]) {
         let sum = read_sum(bytes).expect("a packed sum");
         let patterns: Vec<u64> = sum.terms.iter().map(|term| term.pattern.word()).collect();
         let coefficients: Vec<i64> = sum.terms.iter().map(|term| term.coefficient).collect();
-        let shown = [crate::fields::show_words(&patterns), show_signed(&coefficients)].join(" ");
-        let count = patterns.len();
-        self.case(why, &unpack_case(bytes), &format!("done {count} {shown} stay stay"));
-        let case = Case::Pack { count: count as u64, patterns, coefficients, result: RESULT_ROOM };
-        self.done_bytes(why, &case, bytes, "stay");
-    }
-
-    pub fn text_refused(&mut self, why: &str, text: &str, number: u64, place: usize) {
-        let case = Case::Text { text: text.into(), table: TABLE_ROOM };
-        self.case(why, &case, &format!("refused {number} {place} stay"));
-    }
-
-    /// An allowed text whose table is refused.
-    pub fn formula_refused(&mut self, why: &str, text: &str, number: u64, place: usize) {
-        let table = self.allowed(why, text);
-        self.table_refused(why, &table, number, place);
-    }
-
-    pub fn table_refused(&mut self, why: &str, table: &[i64], number: u64, place: usize) {
-        let expected = format!("refused {number} {place} stay zero zero");
-        self.case(why, &simplify_case(table.to_vec()), &expected);
-    }
-
-    /// A table is this ordered sum.
-    pub fn table_is(&mut self, why: &str, table: &[i64], ordered: &str) {
-        self.done_bytes(why, &simplify_case(table.to_vec()), &as_written(ordered), "stay zero zero");
+        let shown = [show_words(&patterns), show_signed(&coefficients)].join(" ");
+        self.done(why, &unpack::case(bytes), patterns.len(), &shown);
+        self.done_bytes(why, &pack::case(patterns.len(), &patterns, &coefficients), bytes);
     }
 
     pub fn slope(&mut self, why: &str, sum: &[u8], letter: char, ordered: &str) -> Vec<u8> {
-        let variable = u64::from(letter as u32 - 'a' as u32);
-        let case = Case::Slope { sum: sum.to_vec(), variable, result: RESULT_ROOM };
         let bytes = as_written(ordered);
-        self.done_bytes(why, &case, &bytes, "stay");
+        self.done_bytes(why, &slope::case(sum, number_of(letter)), &bytes);
         bytes
-    }
-
-    pub fn slope_refused(&mut self, why: &str, sum: &[u8], variable: u64, number: u64, place: usize) {
-        let case = Case::Slope { sum: sum.to_vec(), variable, result: RESULT_ROOM };
-        self.case(why, &case, &format!("refused {number} {place} stay"));
     }
 
     pub fn substitute(&mut self, why: &str, sum: &[u8], list: &[u8], ordered: &str) -> Vec<u8> {
         let bytes = as_written(ordered);
-        self.done_bytes(why, &substitute_case(sum, list), &bytes, "stay zero zero");
+        self.done_bytes(why, &substitute::case(sum, list), &bytes);
         bytes
-    }
-
-    pub fn substitute_refused(&mut self, why: &str, sum: &[u8], list: &[u8], number: u64, place: usize) {
-        let expected = format!("refused {number} {place} stay zero zero");
-        self.case(why, &substitute_case(sum, list), &expected);
-    }
-
-    pub fn unpack_refused(&mut self, why: &str, sum: &[u8], place: usize) {
-        let expected = format!("refused {} {place} stay stay", crate::refusals::SUM);
-        self.case(why, &unpack_case(sum), &expected);
     }
 
     /// Readings and tolerances of the first letters; the others are 0.
     pub fn estimate(&mut self, why: &str, sum: &[u8], readings: &[i16], tolerances: &[i16], answer: (i64, i64)) {
         let bytes = [answer.0.to_le_bytes(), answer.1.to_le_bytes()].concat();
-        self.done_bytes(why, &estimate_case(sum, readings, tolerances), &bytes, "stay");
-    }
-
-    pub fn estimate_refused(&mut self, why: &str, case: &Case, number: u64, place: usize) {
-        self.case(why, case, &format!("refused {number} {place} stay"));
+        self.done_bytes(why, &estimate::case(sum, readings, tolerances), &bytes);
     }
 }

@@ -1,128 +1,132 @@
 //! ROOM, what is left in the areas, and the lines that REPLAY.md answers `unknown`.
 
-use super::{packed_of, table_of, Statements};
-use crate::lines::{answer, case_line, Case, LONGEST_LINE, UNKNOWN};
-use crate::operations::Own;
-
-/// For each lent area: what it needs at least, and the longest that a line may ask for.
-const WORD: (usize, usize) = (8192, 9000);
-const RESULT: (usize, usize) = (2306, 40_000);
+use super::Statements;
+use crate::areas::{LONGEST_BYTE_AREA, LONGEST_WORD_AREA};
+use crate::estimate::ANSWER_ROOM;
+use crate::lines::{run_case, Case, LONGEST_LINE, UNKNOWN};
+use crate::operations::{own, Operation, ALL};
+use crate::packed::{MOST_PACKED, UNPACK_ROOM};
+use crate::refusals::{LIST, READING, ROOM, SHAPE, SUM, TEXT, VARIABLE};
+use crate::sums::{MOST_TERMS, VARIABLES};
+use crate::table::WORK_ROOM;
+use crate::text::{LONGEST_TEXT, TABLE_ROOM};
 
 pub fn state(all: &mut Statements) {
-    lengths(all, &[(192, 9000)], "text", &text_line);
-    lengths(all, &[RESULT, WORD, WORD], "simplify", &simplify_line);
-    lengths(all, &[(128, 9000), (128, 9000)], "unpack", &unpack_line);
-    lengths(all, &[RESULT], "pack", &pack_line);
-    lengths(all, &[RESULT], "slope", &slope_line);
-    lengths(all, &[RESULT, WORD, WORD], "substitute", &substitute_line);
-    lengths(all, &[(16, 40_000)], "estimate", &estimate_line);
+    for &operation in ALL {
+        lengths(all, operation);
+    }
     before_others(all);
+    work_areas(all);
     unknown(all);
+    largest(all);
 }
 
 /// Each area one short, none, exact, one longer, and the longest; the others exact.
-fn lengths(all: &mut Statements, areas: &[(usize, usize)], name: &str, line: &dyn Fn(&[usize]) -> String) {
-    let exact: Vec<usize> = areas.iter().map(|area| area.0).collect();
-    let stay = vec!["stay"; areas.len()].join(" ");
-    let done = answer(line(&exact).as_bytes(), &Own);
-    assert!(done.starts_with("done"), "{name} with exact areas");
-    for (index, &(need, longest)) in areas.iter().enumerate() {
-        for length in [need - 1, 0, 1, need / 2] {
-            let mut chosen = exact.clone();
-            chosen[index] = length;
-            all.line("one area short", &line(&chosen), &format!("refused 1 0 {stay}"));
+fn lengths(all: &mut Statements, operation: &'static Operation) {
+    let exact = Case::exact(operation, (operation.example)());
+    let stay = vec!["stay"; operation.lent.len()].join(" ");
+    let done = run_case(&exact, own);
+    assert!(done.starts_with("done"), "{} with exact areas", operation.name);
+    for (index, lent) in operation.lent.iter().enumerate() {
+        let of_length = |length: usize| {
+            let mut case = exact.clone();
+            case.lengths[index] = length;
+            case
+        };
+        for length in [lent.need - 1, 0, 1, lent.need / 2] {
+            all.case("one area short", &of_length(length), &format!("refused {ROOM} 0 {stay}"));
         }
-        for length in [need, need + 1, longest] {
-            let mut chosen = exact.clone();
-            chosen[index] = length;
-            all.line("long enough", &line(&chosen), &done);
+        for length in [lent.need, lent.need + 1, lent.places.longest()] {
+            all.case("long enough", &of_length(length), &done);
         }
     }
 }
 
-fn text_line(lengths: &[usize]) -> String {
-    case_line(&Case::Text { text: b"a-2".to_vec(), table: lengths[0] })
-}
-
-fn simplify_line(lengths: &[usize]) -> String {
-    let [result, patterns, coefficients] = [lengths[0], lengths[1], lengths[2]];
-    case_line(&Case::Simplify { table: table_of("(a+b)^2-b^2"), result, patterns, coefficients })
-}
-
-fn unpack_line(lengths: &[usize]) -> String {
-    case_line(&Case::Unpack { sum: packed_of("a-2*b"), patterns: lengths[0], coefficients: lengths[1] })
-}
-
-fn pack_line(lengths: &[usize]) -> String {
-    case_line(&Case::Pack { count: 1, patterns: vec![1], coefficients: vec![-5], result: lengths[0] })
-}
-
-fn slope_line(lengths: &[usize]) -> String {
-    case_line(&Case::Slope { sum: packed_of("a^3"), variable: 0, result: lengths[0] })
-}
-
-fn substitute_line(lengths: &[usize]) -> String {
-    let [result, patterns, coefficients] = [lengths[0], lengths[1], lengths[2]];
-    let list = super::typed_list(&[('a', "b-1")]);
-    case_line(&Case::Substitute { sum: packed_of("a^2"), list, result, patterns, coefficients })
-}
-
-fn estimate_line(lengths: &[usize]) -> String {
-    let (readings, tolerances) = (vec![1; 16], vec![0; 16]);
-    case_line(&Case::Estimate { sum: packed_of("a-1"), readings, tolerances, answer: lengths[0] })
+/// A line in which sizes are written by name, with 1 or 2 added or taken away if wanted: `unpack 00 UNPACK UNPACK-1`.
+fn sized(line: &str) -> String {
+    let field = |field: &str| {
+        let end = field.find(['+', '-']).filter(|&end| end > 0).unwrap_or(field.len());
+        let (name, change) = field.split_at(end);
+        let size = match name {
+            "TABLE" => TABLE_ROOM,
+            "RESULT" => MOST_PACKED,
+            "WORK" => WORK_ROOM,
+            "UNPACK" => UNPACK_ROOM,
+            "ANSWER" => ANSWER_ROOM,
+            "TERMS" => MOST_TERMS,
+            "VARIABLES" => VARIABLES,
+            "BYTES" => LONGEST_BYTE_AREA,
+            "WORDS" => LONGEST_WORD_AREA,
+            _ => return field.to_string(),
+        };
+        let change: i64 = if change.is_empty() { 0 } else { change.parse().expect("a change of a size") };
+        (size as i64 + change).to_string()
+    };
+    line.split(' ').map(field).collect::<Vec<String>>().join(" ")
 }
 
 /// ROOM before every other check, also on inputs that are refused for another reason.
 fn before_others(all: &mut Statements) {
     let why = "ROOM first, and nothing is touched";
     for (line, fates) in [
-        ("text - 191", "stay"),
-        ("simplify - 2305 8192 8192", "stay stay stay"),
-        ("simplify - 2306 8191 8192", "stay stay stay"),
-        ("simplify - 2306 8192 8191", "stay stay stay"),
-        ("unpack - 127 128", "stay stay"),
-        ("unpack - 128 127", "stay stay"),
-        ("pack 129 - - 2305", "stay"),
-        ("slope - 8 2305", "stay"),
-        ("substitute - - 2305 8192 8192", "stay stay stay"),
-        ("substitute - - 2306 8192 0", "stay stay stay"),
-        ("estimate - - - 15", "stay"),
+        ("text - TABLE-1", "stay"),
+        ("simplify - RESULT-1 WORK WORK", "stay stay stay"),
+        ("simplify - RESULT WORK-1 WORK", "stay stay stay"),
+        ("simplify - RESULT WORK WORK-1", "stay stay stay"),
+        ("unpack - UNPACK-1 UNPACK", "stay stay"),
+        ("unpack - UNPACK UNPACK-1", "stay stay"),
+        ("pack TERMS+1 - - RESULT-1", "stay"),
+        ("slope - VARIABLES RESULT-1", "stay"),
+        ("substitute - - RESULT-1 WORK WORK", "stay stay stay"),
+        ("substitute - - RESULT WORK 0", "stay stay stay"),
+        ("estimate - - - ANSWER-1", "stay"),
     ] {
-        all.line(why, line, &format!("refused 1 0 {fates}"));
+        all.line(why, &sized(line), &format!("refused {ROOM} 0 {fates}"));
     }
+}
+
+fn work_areas(all: &mut Statements) {
     let why = "work areas are zero after every other refusal";
-    all.line(why, "simplify - 2306 8192 8192", "refused 2 0 stay zero zero");
-    all.line(why, "substitute - - 2306 8192 8192", "refused 7 0 stay zero zero");
-    all.line(why, "substitute 00 - 2306 9000 8193", "refused 8 0 stay zero zero");
-    all.line(why, "substitute 00 00 2306 9000 8193", "done 1 00 stay zero zero");
+    for (line, number) in [
+        ("simplify - RESULT WORK WORK", SHAPE),
+        ("substitute - - RESULT WORK WORK", SUM),
+        ("substitute 00 - RESULT WORDS WORK+1", LIST),
+    ] {
+        all.line(why, &sized(line), &format!("refused {number} 0 stay zero zero"));
+    }
+    all.line(why, &sized("substitute 00 00 RESULT WORDS WORK+1"), "done 1 00 stay zero zero");
 }
 
 fn unknown(all: &mut Statements) {
     let why = "REPLAY: unknown";
     let lines = [
-        "", " ", "text", "text 61", "text 61 192 1", "text  192", "text 61  192", " text 61 192", "text 61 192 ",
-        "text 61 192\r", "text 6 192", "text 6A 192", "text 6g 192", "text 61 0192", "text 61 -1", "text 61 +192",
-        "text 61 9001", "text 61 18446744073709551808", "text 61 1e2", "text 61\t192", "Text 61 192", "texts 61 192",
-        "text -- 192", "text - -", "simplify 00 2306 8192 8192", "simplify 000000000000000 2306 8192 8192",
-        "simplify - 40001 8192 8192", "simplify - 2306 9001 8192", "simplify - 2306 8192 9001", "simplify - 2306 8192",
-        "unpack 00 128", "unpack 00 128 128 128", "unpack 00 9001 128", "pack 0 - -", "pack 00 - - 2306",
-        "pack 18446744073709551616 - - 2306", "pack -1 - - 2306", "pack 0 00 - 2306", "pack 0 - 0000000000000001f 2306",
-        "pack 0 - - 40001", "slope 00 18446744073709551616 2306", "slope 00 a 2306", "slope 00 01 2306", "slope 00 0",
-        "substitute 00 00 2306 8192", "substitute 00 2306 8192 8192", "substitute 00 0 2306 8192 8192",
-        "estimate 00 - - 40001", "estimate 00 - -", "estimate 00 - - 016", "terms 61", "unknown", "done 0 - stay",
-        "divide 00 00 2306",
+        "", " ", "text", "text 61", "text 61 TABLE 1", "text  TABLE", "text 61  TABLE", " text 61 TABLE",
+        "text 61 TABLE ", "text 61 192\r", "text 6 TABLE", "text 6A TABLE", "text 6g TABLE", "text 61 0192", "text 61 -1",
+        "text 61 +192", "text 61 WORDS+1", "text 61 18446744073709551808", "text 61 1e2", "text 61\t192",
+        "Text 61 TABLE", "texts 61 TABLE", "text -- TABLE", "text - -", "simplify 00 RESULT WORK WORK",
+        "simplify 000000000000000 RESULT WORK WORK", "simplify - BYTES+1 WORK WORK", "simplify - RESULT WORDS+1 WORK",
+        "simplify - RESULT WORK WORDS+1", "simplify - RESULT WORK", "unpack 00 UNPACK", "unpack 00 UNPACK UNPACK UNPACK",
+        "unpack 00 WORDS+1 UNPACK", "pack 0 - -", "pack 00 - - RESULT", "pack 18446744073709551616 - - RESULT",
+        "pack -1 - - RESULT", "pack 0 00 - RESULT", "pack 0 - 0000000000000001f RESULT", "pack 0 - - BYTES+1",
+        "slope 00 18446744073709551616 RESULT", "slope 00 a RESULT", "slope 00 01 RESULT", "slope 00 0",
+        "substitute 00 00 RESULT WORK", "substitute 00 RESULT WORK WORK", "substitute 00 0 RESULT WORK WORK",
+        "estimate 00 - - BYTES+1", "estimate 00 - -", "estimate 00 - - 016", "terms 61", "unknown", "done 0 - stay",
+        "divide 00 00 RESULT",
     ];
     for line in lines {
-        all.line(why, line, UNKNOWN);
+        all.line(why, &sized(line), UNKNOWN);
     }
+}
+
+fn largest(all: &mut Statements) {
     let why = "REPLAY: the largest numbers that are allowed";
-    all.line(why, "pack 18446744073709551615 - - 2306", "refused 2 0 stay");
-    all.line(why, "slope 00 18446744073709551615 40000", "refused 9 0 stay");
-    all.line(why, "estimate 00 - - 40000", "refused 10 0 stay");
+    all.line(why, &sized("pack 18446744073709551615 - - RESULT"), &format!("refused {SHAPE} 0 stay"));
+    all.line(why, &sized("slope 00 18446744073709551615 BYTES"), &format!("refused {VARIABLE} 0 stay"));
+    all.line(why, &sized("estimate 00 - - BYTES"), &format!("refused {READING} 0 stay"));
     // The newline does not count.
     let line_of = |bytes: usize, table: usize| format!("text {} {table}", "61".repeat(bytes));
     let (longest, longer) = (line_of(LONGEST_LINE / 2 - 5, 1920), line_of(LONGEST_LINE / 2 - 4, 192));
     assert_eq!((longest.len(), longer.len()), (LONGEST_LINE, LONGEST_LINE + 1));
-    all.line("REPLAY: a line of 65,536 bytes", &longest, "refused 12 1024 stay");
+    all.line("REPLAY: a line as long as may be", &longest, &format!("refused {TEXT} {LONGEST_TEXT} stay"));
     all.line("REPLAY: a line of one byte more", &longer, UNKNOWN);
 }

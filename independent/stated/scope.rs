@@ -1,8 +1,11 @@
 //! 01, "Both sides of each limit" and "Slips we have seen".
 
-use super::{estimate_case, packed_of, typed_list, Statements};
-use crate::refusals::{DEGREE, RANGE, SPREAD, TEXT, WEIGHT};
-use crate::sums::LETTERS;
+use super::Statements;
+use crate::operations::{estimate, simplify, text, unpack};
+use crate::packed::{MOST_GROUPS, UNPACK_ROOM};
+use crate::refusals::{DEGREE, RANGE, SPREAD, SUM, TEXT, WEIGHT};
+use crate::sums::VARIABLES;
+use crate::typed::{node_count, packed_of, typed_list};
 
 const WHY: &str = "01, both sides of each limit";
 const SLIP: &str = "01, slips";
@@ -11,7 +14,7 @@ pub fn state(all: &mut Statements) {
     all.formula(WHY, "0^0", "1");
     all.formula(WHY, "(a-a)^0", "1");
     all.formula(WHY, "a-a", "0");
-    all.line(WHY, "unpack 00 128 128", "done 0 - - stay stay");
+    all.line(WHY, &format!("unpack 00 {UNPACK_ROOM} {UNPACK_ROOM}"), "done 0 - - stay stay");
     square(all);
     weights_and_degrees(all);
     groups(all);
@@ -42,15 +45,15 @@ fn weights_and_degrees(all: &mut Statements) {
     all.formula(WHY, "0*4611686018427387904", "0");
     all.formula(WHY, "a^60", "a^60");
     all.formula_refused(WHY, "a^60*a", DEGREE, 3);
-    all.text_refused(WHY, "a^61", TEXT, 3);
+    all.refused(WHY, &text::case("a^61"), TEXT, 3);
 }
 
 /// 2^62 packs in ten groups, -2^62 in nine.
 fn groups(all: &mut Statements) {
     let plus = all.formula(WHY, "4611686018427387904", "4611686018427387904");
     let minus = all.formula(WHY, "-4611686018427387904", "-4611686018427387904");
-    assert_eq!(plus.len(), 1 + 10 + LETTERS, "ten groups");
-    assert_eq!(minus.len(), 1 + 9 + LETTERS, "nine groups");
+    assert_eq!(plus.len(), 1 + MOST_GROUPS + VARIABLES, "ten groups");
+    assert_eq!(minus.len(), 1 + MOST_GROUPS - 1 + VARIABLES, "nine groups");
     assert_eq!(&plus[1..11], &[0x80, 0x80, 0x80, 0x80, 0x80, 0x80, 0x80, 0x80, 0x80, 1]);
     assert_eq!(&minus[1..10], &[0xff, 0xff, 0xff, 0xff, 0xff, 0xff, 0xff, 0xff, 0x7f]);
 }
@@ -63,7 +66,7 @@ fn run_only(all: &mut Statements) {
     let value = 4_294_967_296 * 32_767 * 32_767;
     all.estimate(WHY, &edge, &[32_767], &[1], (value, (1 << 62) - value));
     let over = all.formula(WHY, "4294967296*a^2+1", "4294967296*a^2+1");
-    all.estimate_refused(WHY, &estimate_case(&over, &[32_767], &[1]), RANGE, 0);
+    all.refused(WHY, &estimate::case(&over, &[32_767], &[1]), RANGE, 0);
     let test = "(a*b*c*d-e*f)^4+4*a*b*c*d*e*f*(e^2*f^2+a^2*b^2*c^2*d^2)";
     all.formula(WHY, test, "a^4*b^4*c^4*d^4+6*a^2*b^2*c^2*d^2*e^2*f^2+e^4*f^4");
 }
@@ -72,9 +75,9 @@ fn run_only(all: &mut Statements) {
 fn cube_of_letters() -> String {
     let letters = b"abcdefgh";
     let mut terms = Vec::new();
-    for first in 0..8 {
-        for second in first..8 {
-            for third in second..8 {
+    for first in 0..letters.len() {
+        for second in first..letters.len() {
+            for third in second..letters.len() {
                 let times = match (first == second, second == third) {
                     (true, true) => "",
                     (false, false) => "6*",
@@ -96,9 +99,9 @@ fn cube_of_letters() -> String {
 
 fn slips(all: &mut Statements) {
     // -2^63 before its absolute value is taken: as an integer node and as a coefficient's code of 2^64 - 1.
-    all.table_refused(SLIP, &[0, i64::MIN, 0], WEIGHT, 0);
-    let code = [&[1][..], &[0xff; 9], &[1], &[0; 8]].concat();
-    all.unpack_refused(SLIP, &code, 1);
+    all.refused(SLIP, &simplify::case(&[0, i64::MIN, 0]), WEIGHT, 0);
+    let code = [&[1][..], &[0xff; MOST_GROUPS - 1], &[1], &[0; VARIABLES]].concat();
+    all.refused(SLIP, &unpack::case(&code), SUM, 1);
     // A large reading raised before another factor is seen to be 0.
     let far = packed_of("a^30*b^30+c");
     all.estimate(SLIP, &far, &[32_767, 0, 5], &[32_767, 0, 1], (5, 1));
@@ -120,5 +123,5 @@ fn cancelling(last: usize) -> String {
 
 /// The product is the last node.
 fn cancelling_node(last: usize) -> usize {
-    super::table_of(&cancelling(last)).len() / 3 - 1
+    node_count(&cancelling(last)) - 1
 }

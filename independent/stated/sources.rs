@@ -1,7 +1,9 @@
 //! Formulas that the source documents 000, 001 and 002 work out.
 
-use super::{packed_of, typed_list, Statements};
+use super::Statements;
+use crate::operations::text;
 use crate::refusals::NODES;
+use crate::typed::{list_of, packed_of, typed_list};
 
 pub fn state(all: &mut Statements) {
     chapter_two(all);
@@ -20,7 +22,7 @@ fn chapter_two(all: &mut Statements) {
     all.formula(why, FIRST, FIRST_ORDERED);
     all.nodes(why, SECOND, 22);
     all.formula(why, SECOND, "-a^4*b^4*c^4*d^4-2*a^2*b^2*c^2*d^2*e^2*f^2-e^4*f^4");
-    all.text_refused(why, &format!("{FIRST}+{SECOND}"), NODES, 0);
+    all.refused(why, &text::case(&format!("{FIRST}+{SECOND}")), NODES, 0);
     let sum = "a^4*b^4*c^4*d^4+6*a^2*b^2*c^2*d^2*e^2*f^2+e^4*f^4-(a^2*b^2*c^2*d^2+e^2*f^2)^2";
     all.nodes(why, sum, 58);
     all.formula(why, sum, "4*a^2*b^2*c^2*d^2*e^2*f^2");
@@ -66,7 +68,7 @@ fn slopes_in_turn(all: &mut Statements) {
     for step in 1..sums.len() {
         let slope = all.slope(why, &sum, 'a', slopes[step - 1]);
         let rule = packed_of(&format!("b*(1-a^2)+{}*a*c", 2 * step - 1));
-        let list = super::list_of(&[(1, &slope), (2, &sum)]);
+        let list = list_of(&[(1, &slope), (2, &sum)]);
         sum = all.substitute(why, &rule, &list, sums[step]);
     }
 }

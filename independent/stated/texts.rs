@@ -1,7 +1,12 @@
 //! Typed texts: 01, and what docs/DECISIONS.md says of its open points.
 
-use super::{table_of, Statements};
+use super::Statements;
+use crate::operations::text;
 use crate::refusals::{NODES, TEXT};
+use crate::sums::LAST_LETTER;
+use crate::table::{MOST_NODES, NODE_NUMBERS};
+use crate::text::{DEEPEST_BRACKETS, LONGEST_TEXT};
+use crate::typed::node_count;
 
 pub fn state(all: &mut Statements) {
     lengths(all);
@@ -12,59 +17,62 @@ pub fn state(all: &mut Statements) {
 }
 
 fn lengths(all: &mut Statements) {
-    all.line("REPLAY, the example", "text 612d61 192", &format!("done 5 {} stay", crate::fields::show_signed(&minus())));
-    let why = "over 1,024 bytes";
-    all.text_refused(why, &"x".repeat(1025), TEXT, 1024);
-    all.text_refused(why, &"a".repeat(1025), TEXT, 1024);
-    all.text_refused(why, &"x".repeat(1024), TEXT, 0);
-    all.text_refused(why, &"(".repeat(1024), TEXT, 16);
-    all.text_refused(why, &[&"a+".repeat(512), "a"].concat(), TEXT, 1024);
-    all.text_refused(why, &"a+".repeat(512), TEXT, 1024);
-    all.text_refused(why, &["ab", &"+a".repeat(511)].concat(), TEXT, 1);
-    all.text_refused(why, &["11", &"+a".repeat(511)].concat(), NODES, 0);
-    all.nodes(why, &long_text(1024), 59);
-    all.text_refused(why, &long_text(1025), TEXT, 1024);
+    all.table("REPLAY, the example", "a-a", &MINUS);
+    let why = "as many bytes as there may be, and more";
+    let long = LONGEST_TEXT;
+    all.refused(why, &text::case(&"x".repeat(long + 1)), TEXT, long);
+    all.refused(why, &text::case(&"a".repeat(long + 1)), TEXT, long);
+    all.refused(why, &text::case(&"x".repeat(long)), TEXT, 0);
+    all.refused(why, &text::case(&"(".repeat(long)), TEXT, DEEPEST_BRACKETS);
+    all.refused(why, &text::case(&[&"a+".repeat(long / 2), "a"].concat()), TEXT, long);
+    all.refused(why, &text::case(&"a+".repeat(long / 2)), TEXT, long);
+    all.refused(why, &text::case(&["ab", &"+a".repeat(long / 2 - 1)].concat()), TEXT, 1);
+    all.refused(why, &text::case(&["11", &"+a".repeat(long / 2 - 1)].concat()), NODES, 0);
+    all.nodes(why, &long_text(long), 59);
+    all.refused(why, &text::case(&long_text(long + 1)), TEXT, long);
     let why = "a text that could still go on";
-    all.text_refused(why, "", TEXT, 0);
+    all.refused(why, &text::case(""), TEXT, 0);
     for text in ["-", "a+", "a*", "a^", "(", "(a", "((a)", "a-(b*", "-(a)^"] {
-        all.text_refused(why, text, TEXT, text.len());
+        all.refused(why, &text::case(text), TEXT, text.len());
     }
 }
 
-fn minus() -> Vec<i64> {
-    vec![1, 0, 0, 1, 0, 0, 0, -1, 0, 3, 2, 1, 2, 0, 3]
+/// The nodes of a - a.
+const MINUS: [[i64; NODE_NUMBERS]; 5] = [[1, 0, 0], [1, 0, 0], [0, -1, 0], [3, 2, 1], [2, 0, 3]];
+
+/// In as many brackets as there may be.
+fn in_brackets(text: &str) -> String {
+    format!("{}{text}{}", "(".repeat(DEEPEST_BRACKETS), ")".repeat(DEEPEST_BRACKETS))
 }
 
-/// Thirty letters in sixteen brackets each, less a few, and a number: few nodes, many bytes.
+/// Letters in brackets, and last a number in brackets that makes up the length: few nodes, many bytes.
 fn long_text(length: usize) -> String {
-    let atom = format!("{}a{}+", "(".repeat(16), ")".repeat(16));
-    let text = atom.repeat(29);
-    let left = length - text.len();
-    // 29 x 34 bytes are 986; the last atom takes the rest with one number in brackets.
-    let digits = left - 32;
-    format!("{text}{}{}{}", "(".repeat(16), "7".repeat(digits), ")".repeat(16))
+    let text = (in_brackets("a") + "+").repeat(29);
+    let digits = length - text.len() - in_brackets("").len();
+    text + &in_brackets(&"7".repeat(digits))
 }
 
 fn numbers(all: &mut Statements) {
     let why = "numbers";
-    all.text_refused(why, "46116860184273879050", TEXT, 18);
-    all.text_refused(why, "4611686018427387905", TEXT, 18);
-    all.text_refused(why, "46116860184273879040", TEXT, 19);
-    all.text_refused(why, "18446744073709551617", TEXT, 19);
-    all.text_refused(why, "5000000000000000000", TEXT, 18);
-    all.text_refused(why, "99999999999999999999", TEXT, 18);
-    all.text_refused(why, "a^61", TEXT, 3);
-    all.text_refused(why, "a^600", TEXT, 4);
-    all.text_refused(why, "01", TEXT, 1);
-    all.text_refused(why, "00", TEXT, 1);
-    all.text_refused(why, "a^00", TEXT, 3);
-    all.text_refused(why, "a^70", TEXT, 3);
-    all.text_refused(why, "a+b*07", TEXT, 5);
+    all.refused(why, &text::case("46116860184273879050"), TEXT, 18);
+    all.refused(why, &text::case("4611686018427387905"), TEXT, 18);
+    all.refused(why, &text::case("46116860184273879040"), TEXT, 19);
+    all.refused(why, &text::case("18446744073709551617"), TEXT, 19);
+    all.refused(why, &text::case("5000000000000000000"), TEXT, 18);
+    all.refused(why, &text::case("99999999999999999999"), TEXT, 18);
+    all.refused(why, &text::case("a^61"), TEXT, 3);
+    all.refused(why, &text::case("a^600"), TEXT, 4);
+    all.refused(why, &text::case("01"), TEXT, 1);
+    all.refused(why, &text::case("00"), TEXT, 1);
+    all.refused(why, &text::case("a^00"), TEXT, 3);
+    all.refused(why, &text::case("a^70"), TEXT, 3);
+    all.refused(why, &text::case("a+b*07"), TEXT, 5);
     all.formula(why, "a^0", "1");
     all.formula(why, "4611686018427387903+1", "4611686018427387904");
     let why = "no blanks, no other letters";
-    for text in [" a", "i", "A", "a b", "a+ b", "a\n", "a)", "ab", "2a", "a2", "(a)(b)", "a/b", "()", "(+a)", "+a", "a**b"] {
-        let fault = text.bytes().position(|byte| b" iA\n/".contains(&byte));
+    let next = char::from(LAST_LETTER + 1).to_string();
+    for text in [" a", &next, "A", "a b", "a+ b", "a\n", "a)", "ab", "2a", "a2", "(a)(b)", "a/b", "()", "(+a)", "+a", "a**b"] {
+        let fault = text.bytes().position(|byte| byte == LAST_LETTER + 1 || b" A\n/".contains(&byte));
         let stated = match text {
             "a)" | "ab" | "2a" | "a2" | "()" | "(+a)" => 1,
             "+a" => 0,
@@ -72,17 +80,17 @@ fn numbers(all: &mut Statements) {
             "a**b" => 2,
             _ => fault.expect("one of the bytes that are never allowed"),
         };
-        all.text_refused(why, text, TEXT, stated);
+        all.refused(why, &text::case(text), TEXT, stated);
     }
 }
 
 fn signs(all: &mut Statements) {
     let why = "minus and ^";
-    all.text_refused(why, "a*-b", TEXT, 2);
-    all.text_refused(why, "a+-b", TEXT, 2);
-    all.text_refused(why, "--a", TEXT, 1);
-    all.text_refused(why, "a^-1", TEXT, 2);
-    all.text_refused(why, "a^2^3", TEXT, 3);
+    all.refused(why, &text::case("a*-b"), TEXT, 2);
+    all.refused(why, &text::case("a+-b"), TEXT, 2);
+    all.refused(why, &text::case("--a"), TEXT, 1);
+    all.refused(why, &text::case("a^-1"), TEXT, 2);
+    all.refused(why, &text::case("a^2^3"), TEXT, 3);
     all.formula(why, "-a*b", "-a*b");
     all.formula(why, "-a^2", "-a^2");
     all.formula(why, "(-a)^2", "a^2");
@@ -98,28 +106,31 @@ fn signs(all: &mut Statements) {
 }
 
 fn brackets(all: &mut Statements) {
-    let why = "the 17th bracket";
+    let why = "one bracket more than there may be";
+    let most = DEEPEST_BRACKETS;
     let nested = |depth: usize| format!("{}a{}", "(".repeat(depth), ")".repeat(depth));
-    all.formula(why, &nested(16), "a");
-    all.text_refused(why, &nested(17), TEXT, 16);
-    all.text_refused(why, &"(".repeat(17), TEXT, 16);
-    all.text_refused(why, &"(".repeat(16), TEXT, 16);
-    all.formula(why, &format!("{}+{}", nested(16), nested(16)), "2*a");
-    all.text_refused(why, &format!("{}+{}", nested(16), nested(17)), TEXT, 50);
-    all.text_refused(why, &format!("{}(a)", "(b+".repeat(16)), TEXT, 48);
+    all.formula(why, &nested(most), "a");
+    all.refused(why, &text::case(&nested(most + 1)), TEXT, most);
+    all.refused(why, &text::case(&"(".repeat(most + 1)), TEXT, most);
+    all.refused(why, &text::case(&"(".repeat(most)), TEXT, most);
+    all.formula(why, &format!("{}+{}", nested(most), nested(most)), "2*a");
+    let first = nested(most) + "+";
+    all.refused(why, &text::case(&format!("{first}{}", nested(most + 1))), TEXT, first.len() + most);
+    all.refused(why, &text::case(&format!("{}(a)", "(b+".repeat(most))), TEXT, "(b+".len() * most);
 }
 
 fn node_limits(all: &mut Statements) {
-    let why = "64 and 65 nodes, and TEXT before NODES";
+    let why = "as many nodes as there may be and one more, and TEXT before NODES";
     let letters = |count: usize| "a+".repeat(count - 1) + "a";
-    let exactly = format!("{}^1", letters(32));
-    assert_eq!(table_of(&exactly).len(), 3 * 64);
-    all.formula(why, &exactly, "32*a");
-    all.text_refused(why, &letters(33), NODES, 0);
-    all.nodes(why, &letters(32), 63);
-    let seventy = format!("{}-a^2", letters(33));
-    assert_eq!(table_of(&seventy).len(), 3 * 70);
-    all.text_refused(why, &seventy, NODES, 0);
-    all.text_refused(why, &format!("{seventy}+"), TEXT, seventy.len() + 1);
-    all.text_refused(why, &format!("{seventy})"), TEXT, seventy.len());
+    let half = MOST_NODES / 2;
+    let exactly = format!("{}^1", letters(half));
+    assert_eq!(node_count(&exactly), MOST_NODES);
+    all.formula(why, &exactly, &format!("{half}*a"));
+    all.refused(why, &text::case(&letters(half + 1)), NODES, 0);
+    all.nodes(why, &letters(half), MOST_NODES - 1);
+    let over = format!("{}-a^2", letters(half + 1));
+    assert_eq!(node_count(&over), MOST_NODES + 6);
+    all.refused(why, &text::case(&over), NODES, 0);
+    all.refused(why, &text::case(&format!("{over}+")), TEXT, over.len() + 1);
+    all.refused(why, &text::case(&format!("{over})")), TEXT, over.len());
 }

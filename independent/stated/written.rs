@@ -2,6 +2,7 @@
 //! collected or sorted, so an expected sum does not pass through the code that it checks.
 
 use crate::packed::{code_of, write_number};
+use crate::sums::{FIRST_LETTER, LAST_LETTER, VARIABLES};
 
 /// Terms such as `6*a^2*b`, `-a`, `4`; `0` alone is the zero sum.
 pub fn as_written(text: &str) -> Vec<u8> {
@@ -24,12 +25,12 @@ fn write_term(bytes: &mut Vec<u8>, term: &str) {
         None => (1, term),
     };
     let mut coefficient: i128 = sign;
-    let mut exponents = [0u64; 8];
+    let mut exponents = [0u64; VARIABLES];
     for factor in factors.split('*') {
         let (base, exponent) = factor.split_once('^').unwrap_or((factor, "1"));
         match base.as_bytes() {
-            [letter @ b'a'..=b'h'] => {
-                exponents[usize::from(letter - b'a')] = exponent.parse().expect("an exponent");
+            [letter @ FIRST_LETTER..=LAST_LETTER] => {
+                exponents[usize::from(letter - FIRST_LETTER)] = exponent.parse().expect("an exponent");
             }
             _ => coefficient *= base.parse::<i128>().expect("a coefficient"),
         }
