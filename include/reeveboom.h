@@ -21,10 +21,10 @@
 #include <stddef.h>
 #include <stdint.h>
 
-/* Version 4.0: three tools of this kind came before it. The first number goes up by 1 with an answer, a layout of bytes or a declaration that is no longer as it was, the second with what is added
+/* Version 4.1: three tools of this kind came before it. The first number goes up by 1 with an answer, a layout of bytes or a declaration that is no longer as it was, the second with what is added
  * beside them. As one number, for #if: 100 x the first + the second. */
 #define REEVEBOOM_VERSION_MAJOR 4
-#define REEVEBOOM_VERSION_MINOR 0
+#define REEVEBOOM_VERSION_MINOR 1
 #define REEVEBOOM_VERSION (100 * REEVEBOOM_VERSION_MAJOR + REEVEBOOM_VERSION_MINOR)
 
 /* The library takes lengths of 64 bits. Where size_t is shorter this does not compile; before C11 and C++11 that is an array of -1 places. */

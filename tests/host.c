@@ -986,7 +986,7 @@ static void refusals(void) {
     refused(WIDE, REEVEBOOM_ROOM, 0);
     refused(WIDE, REEVEBOOM_TEXT, MOST_TEXT);
     refused(WIDE, REEVEBOOM_NODES, 4294967295u);
-    check(REEVEBOOM_VERSION == 400, "the version");
+    check(REEVEBOOM_VERSION == 401, "the version");
 }
 
 static void all(void) {
