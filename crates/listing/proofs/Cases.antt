@@ -18,7 +18,7 @@ use Rattle.text.specs.Letters.{letterOf}
 use Rattle.text.specs.Tree.{nodeCount, nodesOf}
 use Rattle.text.specs.Reader.{takes, moreDigits, digitsAt, readAtom, readExponent, readFactor, readMore, isTimes, readTerm, isSign, signed, afterMinus, readSum, inBrackets, readWhole}
 use Rattle.text.specs.Text.{judgeText, textSum}
-use Rattle.listing.specs.Decimal.{digitsOf, decimal, signedDecimal}
+use Rattle.numbers.specs.Decimal.{digitsOf, decimal, signedDecimal}
 use Rattle.listing.specs.Lines.{numbered, exponentsLine, termLine, termLines, sumLines, refusalLine}
 use Rattle.formula.specs.Simplify.{tableSum}
 use Rattle.listing.specs.Listing.{listed, withoutNewline}

@@ -1,5 +1,3 @@
-pub mod Decimals
-pub mod Steps
 pub mod Widths
 pub mod Newline
 pub mod Answered

@@ -5,7 +5,6 @@ use Rattle.answers.specs.Promised.{One, OneLent}
 use Rattle.answers.proofs.Unique.{outcome-one}
 use Rattle.listing.proofs.list.Reads as list
 use Rattle.listing.proofs.most_input.Reads as most-input
-use Rattle.listing.proofs.lines.write_bytes.Reads as write-bytes
 
 -- Refused when tried: one byte less; 1,024.
 pub most-input-one : One most-input.Learnt
@@ -15,7 +14,3 @@ most-input-one k a r r' e e' h h' = same h h'
 -- is taken; another word before the number of terms; 0 is printed as a negative number.
 pub list-one : OneLent list.Learnt (λ k e. now (e .1 .0))
 list-one k a r r' e e' h h' = outcome-one r r' (same h h')
-
--- Refused when tried: the first byte again and again; answers the place where it began.
-pub write-bytes-one : OneLent write-bytes.Learnt (λ k e. now (e .0))
-write-bytes-one k a r r' e e' h h' = (same (h .0) (h' .0), same (h .1) (h' .1))

@@ -10,9 +10,9 @@ use Rattle.algebra.specs.Sum.{Term, Sum, weight}
 use Rattle.algebra.specs.Accepted.{Accepted}
 use Rattle.packed.proofs.Good.{Fit, weighs-light, Good, Good.none, Good.more, accepted-good}
 use Rattle.answers.specs.Quoted.{quoted}
-use Rattle.listing.specs.Decimal.{decimal, signedDecimal}
+use Rattle.numbers.specs.Decimal.{decimal, signedDecimal}
 use Rattle.listing.specs.Lines.{newline, numbered, exponentsLine, termLine, termLines, sumLines, mostLines, refusalLine}
-use Rattle.listing.proofs.Decimals.{decimal-length, signed-length}
+use Rattle.numbers.proofs.Decimals.{decimal-length, signed-length}
 
 exponents-width : (p : Pattern) → degree p ≤ largestDegree → length (exponentsLine p) ≤ 3 * length p + 1
 unfolding exponentsLine degree

@@ -7,7 +7,7 @@ use Rattle.algebra.specs.Limits.{mostTerms}
 use Rattle.algebra.specs.Pattern.{Pattern}
 use Rattle.algebra.specs.Sum.{Term, Sum}
 use Rattle.answers.specs.Quoted.{quoted}
-use Rattle.listing.specs.Decimal.{decimal, signedDecimal}
+use Rattle.numbers.specs.Decimal.{decimal, signedDecimal}
 
 abbrev pub newline : ℕ
 newline = 10

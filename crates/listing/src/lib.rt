@@ -18,8 +18,7 @@ ghost use Rattle.listing.specs.Inside.Bytes.{Packs, Packed};
 ghost use Rattle.formula.specs.Simplify.{tableSum};
 ghost use Rattle.listing.specs.Listing.{listed, withoutNewline, mostInput, list};
 
-mod decimal;
-pub mod lines;
+mod lines;
 
 // 10 bytes for the first line; for each term 19 digits and a minus, three bytes for each exponent, and the newline.
 pub const MOST_LINES: usize = (20 + 3 * Pattern::VARIABLES as usize + 1) * MOST_TERMS + 10;

@@ -1,6 +1,7 @@
 // The lines of a sum and of a refusal, written from the start of an area, and their parts at a place of it. Each function answers the place after what it wrote.
-use crate::decimal;
 use algebra::Pattern;
+use numbers::bytes;
+use numbers::decimal;
 ghost use mathlib.Core.Path.{_≡_};
 ghost use mathlib.Core.List.{_++_};
 ghost use Prim.Native.Nat.{_+_, _≤_};
@@ -10,25 +11,8 @@ ghost use Rattle.algebra.specs.Sum.{term};
 ghost use Rattle.algebra.specs.Word.{exponents};
 ghost use Rattle.algebra.specs.Held.{firstTerms};
 ghost use Rattle.answers.specs.Areas.{written};
-ghost use Rattle.listing.specs.Decimal.{decimal};
+ghost use Rattle.numbers.specs.Decimal.{decimal};
 ghost use Rattle.listing.specs.Lines.{exponentsLine, termLine, sumLines, refusalLine};
-
-// The bytes at a place of the area, as they are.
-// Asks that the bytes fit at their place.
-pub fn write_bytes(area: &mut [u8], at: usize, bytes: &[u8]) -> usize
-    requires { ⌜ at + length (now bytes) ≤ length (now area) ⌝ }
-    ensures { λ r. ⌜ r ≡ at + length (now (bytes .entry)) ⌝ }
-    ensures { λ r. ⌜ now (area .exit) ≡ sets (now (area .entry)) at (now (bytes .entry)) ⌝ }
-{
-    let mut place = at;
-    let mut i = 0;
-    while i < bytes.len() {
-        area[place] = bytes[i];
-        place += 1;
-        i += 1;
-    }
-    place
-}
 
 // A word, and a number after it.
 fn write_numbered(area: &mut [u8], at: usize, word: &[u8], n: u64) -> usize
@@ -36,7 +20,7 @@ fn write_numbered(area: &mut [u8], at: usize, word: &[u8], n: u64) -> usize
     ensures { λ r. ⌜ r ≡ at + length (now (word .entry) ++ decimal n) ⌝ }
     ensures { λ r. ⌜ now (area .exit) ≡ sets (now (area .entry)) at (now (word .entry) ++ decimal n) ⌝ }
 {
-    let after = write_bytes(area, at, word);
+    let after = bytes::write_bytes(area, at, word);
     decimal::write_decimal(area, after, n)
 }
 

@@ -6,5 +6,8 @@ pub mod Codes
 pub mod Signs
 pub mod ReadNumber
 pub mod WriteNumber
+pub mod Writing
+pub mod Decimals
+pub mod Complement
 pub mod Unique
 pub mod Cases

@@ -13,6 +13,10 @@ use Rattle.numbers.proofs.write_number.Reads as write-number
 use Rattle.numbers.proofs.code.Reads as code
 use Rattle.numbers.proofs.decode.Reads as decode
 use Rattle.numbers.proofs.absolute.Reads as absolute
+use Rattle.numbers.proofs.bytes.write_bytes.Reads as write-bytes
+use Rattle.numbers.proofs.bytes.write_whole.Reads as write-whole
+use Rattle.numbers.proofs.decimal.write_decimal.Reads as write-decimal
+use Rattle.numbers.proofs.decimal.write_signed.Reads as write-signed
 
 -- ---- Different answers say different things.
 
@@ -49,3 +53,16 @@ decode-one k a r r' e e' h h' = same h h'
 -- Refused when tried: one less for a negative number; 0 taken for negative.
 pub absolute-one : One absolute.Learnt
 absolute-one k a r r' e e' h h' = same h h'
+
+-- Refused when tried: the first byte again and again; answers the place where it began.
+pub write-bytes-one : OneLent write-bytes.Learnt (λ k e. now (e .0))
+write-bytes-one k a r r' e e' h h' = (same (h .0) (h' .0), same (h .1) (h' .1))
+
+pub write-whole-one : OneLent write-whole.Learnt (λ k e. now (e .0))
+write-whole-one k a r r' e e' h h' = (refl, same h h')
+
+pub write-decimal-one : OneLent write-decimal.Learnt (λ k e. now (e .0))
+write-decimal-one k a r r' e e' h h' = (same (h .0) (h' .0), same (h .1) (h' .1))
+
+pub write-signed-one : OneLent write-signed.Learnt (λ k e. now (e .0))
+write-signed-one k a r r' e e' h h' = (same (h .0) (h' .0), same (h .1) (h' .1))

@@ -1,4 +1,4 @@
-// Whole numbers in groups of seven bits, and signed numbers as codes.
+// Whole numbers as bytes: in groups of seven bits, signed ones as codes; in decimal digits; and in two's complement.
 // Begin with specs/Number.antt and specs/Code.antt, then with `read_number` and `code`.
 ghost use mathlib.Core.Path.{_≡_};
 ghost use Prim.Native.Nat.{_+_, _≤_};
@@ -8,6 +8,9 @@ ghost use lib.Seq.{sets};
 ghost use Rattle.numbers.specs.Number.{numberBytes, readNumber};
 ghost use Rattle.numbers.specs.Code.{code, decode};
 ghost use Rattle.numbers.specs.Inside.Read.{itemOf};
+
+pub mod bytes;
+pub mod decimal;
 
 // What a reader of bytes answers. Those who read with it show a coefficient's code, a pattern's word or the number of a sum's terms.
 pub enum Read {

@@ -13,7 +13,6 @@ pub mod TakeSum
 pub mod Taking
 pub mod Unpacking
 pub mod GoodTerms
-pub mod Writing
 pub mod WriteSum
 pub mod Packing
 pub mod Inverse

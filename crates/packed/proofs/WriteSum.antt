@@ -13,7 +13,7 @@ use Rattle.numbers.specs.Code.{code}
 use Rattle.algebra.specs.Held.{firstTerms}
 use Rattle.packed.specs.Packed.{exponentBytes, termBytes, bytesOfTerms, packed}
 use Rattle.packed.proofs.Front.{front-length, front-next}
-use Rattle.packed.proofs.Writing.{Writing, start, has-room, joined, next, ended}
+use Rattle.numbers.proofs.Writing.{Writing, start, has-room, joined, next, ended}
 
 -- the bytes of the terms from place k on
 abbrev bytesFrom : ℕ → List ℕ → List ℤ → ℕ → List ℕ

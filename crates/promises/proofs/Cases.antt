@@ -45,9 +45,10 @@ use Rattle.change.specs.Slope.{judgeSlope}
 use Rattle.change.specs.Pairs as listing
 use Rattle.change.specs.Pairs.{readPairs, toTheEnd, readList}
 use Rattle.change.specs.Substitute.{judgePair, judgePairs, judgeSubstitute}
-use Rattle.router.specs.Bytes.{plainNumber, signedNumber, plainBytes, signedBytes}
-use Rattle.router.specs.Readings.{twoByteNumbers, spelled, beforeNegative, judgeReadings}
-use Rattle.router.specs.Estimate.{Estimate, judgeRange, judgeTerms, judgeEstimate}
+use Rattle.numbers.specs.Bytes.{plainNumber, signedNumber, plainBytes, signedBytes}
+use Rattle.estimates.specs.Readings.{twoByteNumbers, spelled, beforeNegative, judgeReadings}
+use Rattle.estimates.specs.Range.{Estimate, judgeRange, judgeTerms}
+use Rattle.router.specs.Estimate.{judgeEstimate}
 use Rattle.promises.specs.Cases.{made, Says, cases, further}
 
 -- every definition that the cases compute with

@@ -30,7 +30,8 @@ use Rattle.text.specs.Grammar.{Formula}
 use Rattle.text.specs.Text.{judgeText, tableInto, readFormula, textSum}
 use Rattle.text.proofs.Formulas.{read-formula}
 use Rattle.text.proofs.Typing.{typed-means}
-use Rattle.router.specs.Estimate.{judgeTerms, judgeEstimate}
+use Rattle.estimates.specs.Range.{judgeTerms}
+use Rattle.router.specs.Estimate.{judgeEstimate}
 use Rattle.promises.specs.Becomes.{Simplifies, ReadsAs}
 use Rattle.promises.specs.FromText.{estimateOf}
 use Rattle.promises.proofs.Becoming.{simplified, simplified-bytes, read-table}

@@ -16,11 +16,12 @@ use Rattle.answers.specs.Answers.{Told.done, Told.refused, outcome}
 use Rattle.answers.specs.Areas.{written}
 use Rattle.answers.specs.Host.{hosted, narrowUnit}
 use Rattle.packed.specs.Promised.{PackedSum}
-use Rattle.router.specs.Readings.{twoByteNumbers}
+use Rattle.estimates.specs.Readings.{twoByteNumbers}
 use Rattle.router.specs.Estimate.{answerBytes, answerOf, estimate, estimateIn, marginIn}
-use Rattle.router.proofs.Tolerances.{are-allowed}
+use Rattle.estimates.proofs.Tolerances.{are-allowed}
 use Rattle.router.proofs.Estimating.{estimate-means, refuses-estimate, all-passed}
-use Rattle.router.specs.Promised.{Given, Estimated, EstimateRefuses.beyond}
+use Rattle.estimates.specs.Promised.{Given}
+use Rattle.router.specs.Promised.{Estimated, EstimateRefuses.beyond}
 use Rattle.router.proofs.Answered.{answer-estimate, answer-margin}
 use Rattle.router.proofs.ForHost.{estimate-heard}
 use Rattle.promises.specs.Becomes.{Becomes}

@@ -44,10 +44,11 @@ use Rattle.text.specs.Reader.{takes, moreDigits, digitsAt, readAtom, readExpone
 use Rattle.text.specs.Promised.{Typed}
 use Rattle.text.proofs.Formulas.{formula-read}
 use Rattle.text.proofs.Typing.{typed-accepts}
-use Rattle.router.specs.Bytes.{plainNumber, signedNumber, plainBytes, signedBytes}
-use Rattle.router.specs.Readings.{twoByteNumbers, spelled, beforeNegative, judgeReadings}
-use Rattle.router.specs.Estimate.{judgeRange, judgeTerms, judgeEstimate, answerOf, answerInto, estimate}
-use Rattle.router.specs.Cases.{eight}
+use Rattle.numbers.specs.Bytes.{plainNumber, signedNumber, plainBytes, signedBytes}
+use Rattle.estimates.specs.Readings.{twoByteNumbers, spelled, beforeNegative, judgeReadings}
+use Rattle.estimates.specs.Range.{judgeRange, judgeTerms}
+use Rattle.router.specs.Estimate.{judgeEstimate, answerOf, answerInto, estimate}
+use Rattle.router.specs.Cases.{inBytes}
 use Rattle.promises.specs.Becomes.{Simplifies, ReadsAs, Becomes, Becomes.a-text}
 use Rattle.promises.proofs.Margins.{demand-3}
 
@@ -123,10 +124,10 @@ becomes = a-text (quoted "(a+b)^2-b^2") tree table is-formula is-read is-simplif
 -- ---- The estimate: a = 10 within 1, b = 3 within 2.
 
 abbrev readings : List ℕ
-readings = eight (pos 10 ∷ pos 3 ∷ [])
+readings = inBytes (pos 10 ∷ pos 3 ∷ [])
 
 abbrev tolerances : List ℕ
-tolerances = eight (pos 1 ∷ pos 2 ∷ [])
+tolerances = inBytes (pos 1 ∷ pos 2 ∷ [])
 
 abbrev answer : List ℕ
 answer = answerOf (pos 160) 71

@@ -21,8 +21,9 @@ use Rattle.text.specs.Tree.{Tree, Tree.number, Tree.letter, Tree.plus, Tree.tim
 use Rattle.text.specs.Text.{judgeText, textSum}
 use Rattle.change.specs.Slope.{judgeSlope}
 use Rattle.change.specs.Substitute.{judgeSubstitute}
-use Rattle.router.specs.Estimate.{Estimate, judgeEstimate}
-use Rattle.router.specs.Cases.{ofLetters, eight, numbersIn, together, valueAt, isWithin}
+use Rattle.estimates.specs.Range.{Estimate}
+use Rattle.router.specs.Estimate.{judgeEstimate}
+use Rattle.router.specs.Cases.{ofLetters, inBytes, numbersIn, together, valueAt, isWithin}
 
 -- ---- Packed bytes, as the operations make them one of the other.
 
@@ -48,7 +49,7 @@ abbrev pub unpacked : Made → Judged Sum
 unpacked m = andThen (made m) (λ bytes. judged SUM (readWhole variables bytes))
 
 abbrev pub estimated : Made → List ℤ → List ℤ → Judged Estimate
-estimated m rs ts = andThen (made m) (λ bytes. judgeEstimate bytes (eight rs) (eight ts))
+estimated m rs ts = andThen (made m) (λ bytes. judgeEstimate bytes (inBytes rs) (inBytes ts))
 
 -- ---- What a case says. Exponents, readings and tolerances are those of the first letters; the others are 0.
 

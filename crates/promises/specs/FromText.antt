@@ -3,7 +3,7 @@ use mathlib.Core.List.{List}
 use Prim.Native.Nat.{ℕ}
 use Rattle.answers.specs.Judge.{Judged, andThen}
 use Rattle.text.specs.Text.{textSum}
-use Rattle.router.specs.Estimate.{Estimate, judgeTerms}
+use Rattle.estimates.specs.Range.{Estimate, judgeTerms}
 
 unfoldable pub estimateOf : List ℕ → List ℕ → List ℕ → Judged Estimate
 estimateOf text readings tolerances = andThen (textSum text) (λ s. judgeTerms s readings tolerances)

@@ -9,7 +9,7 @@ use native.Mathlib.Omega.{arith}
 use lib.ListN.{length, getD, drop, set, take, length-append, drop-of-length-le}
 use lib.Seq.{drop-cons, sets}
 use Rattle.io.specs.Digits.{glyph, digits, Fewest}
-use Rattle.packed.proofs.Writing.{Writing, start, next, ended}
+use Rattle.numbers.proofs.Writing.{Writing, start, next, ended}
 use Rattle.replay.specs.Hex.{hexDigits, inHex, Writes}
 
 pub digits-length : (base k n : ℕ) → length (digits base k n) ≡ k

@@ -1,7 +1,7 @@
 // One case: its line is taken for the operation that it names.
 use crate::LONGEST_LINE;
 use crate::changes;
-use crate::estimates;
+use crate::estimating;
 use crate::fields;
 use crate::formulas;
 use crate::lines;
@@ -89,7 +89,7 @@ pub(crate) fn answer(
             coefficients,
             out,
         ),
-        Operation::Estimate => estimates::estimate(line, at, given, result, out),
+        Operation::Estimate => estimating::estimate(line, at, given, result, out),
         Operation::Unknown => lines::unknown(out),
     }
 }

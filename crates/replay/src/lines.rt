@@ -1,7 +1,7 @@
 // The parts of an answer's line, written at a place of an area. Each function answers the place after what it wrote.
 use crate::digits;
 use crate::filling::Fate;
-use listing::lines;
+use numbers::bytes as runs;
 ghost use mathlib.Core.Path.{_≡_};
 ghost use Prim.Native.Nat.{_+_, _*_, _≤_, _<_};
 ghost use lib.ListN.{length};
@@ -15,7 +15,7 @@ fn write_number(out: &mut [u8], at: usize, n: usize) -> usize
 {
     let mut text = [0u8; 20];
     let length = io::decimal(n as u64, &mut text);
-    lines::write_bytes(out, at, &text[..length])
+    runs::write_bytes(out, at, &text[..length])
 }
 
 fn write_word(out: &mut [u8], at: usize, bits: u64) -> usize
@@ -25,7 +25,7 @@ fn write_word(out: &mut [u8], at: usize, bits: u64) -> usize
 {
     let mut text = [0u8; 16];
     let length = io::hex(bits, 16, &mut text);
-    lines::write_bytes(out, at, &text[..length])
+    runs::write_bytes(out, at, &text[..length])
 }
 
 fn write_hex(out: &mut [u8], at: usize, bytes: &[u8]) -> usize
@@ -80,7 +80,7 @@ pub(crate) fn bytes(out: &mut [u8], at: usize, bytes: &[u8]) -> usize
     ensures { λ r. ⌜ r ≤ at + 2 * length (now (bytes .entry)) + 2 ⌝ }
 {
     if bytes.len() == 0 {
-        return lines::write_bytes(out, at, b" -");
+        return runs::write_bytes(out, at, b" -");
     }
     out[at] = b' ';
     write_hex(out, at + 1, bytes)
@@ -91,7 +91,7 @@ pub(crate) fn words(out: &mut [u8], at: usize, words: &[u64]) -> usize
     ensures { λ r. ⌜ r ≤ at + 16 * length (now (words .entry)) + 2 ⌝ }
 {
     if words.len() == 0 {
-        return lines::write_bytes(out, at, b" -");
+        return runs::write_bytes(out, at, b" -");
     }
     out[at] = b' ';
     write_words(out, at + 1, words)
@@ -102,7 +102,7 @@ pub(crate) fn signed_words(out: &mut [u8], at: usize, words: &[i64]) -> usize
     ensures { λ r. ⌜ r ≤ at + 16 * length (now (words .entry)) + 2 ⌝ }
 {
     if words.len() == 0 {
-        return lines::write_bytes(out, at, b" -");
+        return runs::write_bytes(out, at, b" -");
     }
     out[at] = b' ';
     write_signed(out, at + 1, words)
@@ -113,9 +113,9 @@ pub(crate) fn fate(out: &mut [u8], at: usize, fate: Fate) -> usize
     ensures { λ r. ⌜ r ≤ at + 7 ⌝ }
 {
     match fate {
-        Fate::Stay => lines::write_bytes(out, at, b" stay"),
-        Fate::Zero => lines::write_bytes(out, at, b" zero"),
-        Fate::Spoilt => lines::write_bytes(out, at, b" spoilt"),
+        Fate::Stay => runs::write_bytes(out, at, b" stay"),
+        Fate::Zero => runs::write_bytes(out, at, b" zero"),
+        Fate::Spoilt => runs::write_bytes(out, at, b" spoilt"),
     }
 }
 
@@ -125,7 +125,7 @@ pub(crate) fn done(out: &mut [u8], n: usize) -> usize
     requires { ⌜ 25 ≤ length (now out) ⌝ }
     ensures { λ r. ⌜ r ≤ 25 ⌝ }
 {
-    let at = lines::write_bytes(out, 0, b"done ");
+    let at = runs::write_bytes(out, 0, b"done ");
     write_number(out, at, n)
 }
 
@@ -133,7 +133,7 @@ pub(crate) fn refused(out: &mut [u8], refusal: usize, place: usize) -> usize
     requires { ⌜ 49 ≤ length (now out) ⌝ }
     ensures { λ r. ⌜ r ≤ 49 ⌝ }
 {
-    let at = lines::write_bytes(out, 0, b"refused ");
+    let at = runs::write_bytes(out, 0, b"refused ");
     let after = write_number(out, at, refusal);
     out[after] = b' ';
     write_number(out, after + 1, place)
@@ -144,7 +144,7 @@ pub(crate) fn unknown(out: &mut [u8]) -> usize
     requires { ⌜ 8 ≤ length (now out) ⌝ }
     ensures { λ r. ⌜ r ≤ 8 ⌝ }
 {
-    lines::write_bytes(out, 0, b"unknown\n")
+    runs::write_bytes(out, 0, b"unknown\n")
 }
 
 // The end of a line.

@@ -10,7 +10,7 @@ ghost use Rattle.replay.specs.Lent.{Lent, Gathers};
 mod cases;
 mod changes;
 mod digits;
-mod estimates;
+mod estimating;
 mod fields;
 mod filling;
 mod formulas;

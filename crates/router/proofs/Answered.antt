@@ -11,33 +11,34 @@ use Rattle.algebra.specs.Limits.{variables, largestWeight}
 use Rattle.algebra.specs.Value.{value}
 use Rattle.algebra.specs.Margin.{margin}
 use Rattle.algebra.proofs.Sums.Margins.{estimate-raised}
-use Rattle.router.specs.Bytes.{eightBytes, signedNumber, signedBytes}
+use Rattle.numbers.specs.Bytes.{wholeBytes, signedNumber, signedBytes}
 use Rattle.router.specs.Estimate.{estimateIn, marginIn}
-use Rattle.router.proofs.Complement.{bytes-length, small-home, signed-back}
-use Rattle.router.proofs.Numbering.{numbers-length}
-use Rattle.router.specs.Promised.{Given, Estimated}
+use Rattle.numbers.proofs.Complement.{bytes-length, small-home, signed-back}
+use Rattle.estimates.proofs.Numbering.{numbers-length}
+use Rattle.estimates.specs.Promised.{Given}
+use Rattle.router.specs.Promised.{Estimated}
 
 -- two numbers of eight bytes, one after the other, and what follows them
 module _ (y z : ℤ) (rest : List ℕ) where
   abbrev both : List ℕ
-  both = (signedBytes eightBytes y ++ signedBytes eightBytes z) ++ rest
+  both = (signedBytes wholeBytes y ++ signedBytes wholeBytes z) ++ rest
 
-  apart : both ≡ signedBytes eightBytes y ++ (signedBytes eightBytes z ++ rest)
-  apart = append-assoc (signedBytes eightBytes y) (signedBytes eightBytes z) rest
+  apart : both ≡ signedBytes wholeBytes y ++ (signedBytes wholeBytes z ++ rest)
+  apart = append-assoc (signedBytes wholeBytes y) (signedBytes wholeBytes z) rest
 
-  back : (w : ℤ) → natAbs w ≤ largestWeight → signedNumber (signedBytes eightBytes w) ≡ w
-  back w small = signed-back eightBytes w (small-home eightBytes w (omega arith))
+  back : (w : ℤ) → natAbs w ≤ largestWeight → signedNumber (signedBytes wholeBytes w) ≡ w
+  back w small = signed-back wholeBytes w (small-home wholeBytes w (omega arith))
 
   first-back : natAbs y ≤ largestWeight → estimateIn both ≡ y
   first-back small =
-      ap (λ l. signedNumber (take eightBytes l)) apart
-      ∙ ap signedNumber (take-at (signedBytes eightBytes y) (signedBytes eightBytes z ++ rest) eightBytes (bytes-length eightBytes y)) ∙ back y small
+      ap (λ l. signedNumber (take wholeBytes l)) apart
+      ∙ ap signedNumber (take-at (signedBytes wholeBytes y) (signedBytes wholeBytes z ++ rest) wholeBytes (bytes-length wholeBytes y)) ∙ back y small
 
   second-back : natAbs z ≤ largestWeight → marginIn both ≡ z
   second-back small =
-      ap (λ l. signedNumber (take eightBytes (drop eightBytes l))) apart
-      ∙ ap (λ l. signedNumber (take eightBytes l)) (drop-at (signedBytes eightBytes y) (signedBytes eightBytes z ++ rest) eightBytes (bytes-length eightBytes y))
-      ∙ ap signedNumber (take-at (signedBytes eightBytes z) rest eightBytes (bytes-length eightBytes z)) ∙ back z small
+      ap (λ l. signedNumber (take wholeBytes (drop wholeBytes l))) apart
+      ∙ ap (λ l. signedNumber (take wholeBytes l)) (drop-at (signedBytes wholeBytes y) (signedBytes wholeBytes z ++ rest) wholeBytes (bytes-length wholeBytes y))
+      ∙ ap signedNumber (take-at (signedBytes wholeBytes z) rest wholeBytes (bytes-length wholeBytes z)) ∙ back z small
 
 -- as many tolerances as readings
 pub given-long : {readings tolerances : List ℕ} {rs : List ℤ} {ts : List ℕ} → Given readings tolerances rs ts → length rs ≡ length ts

@@ -22,10 +22,11 @@ use Rattle.numbers.specs.Code.{decode}
 use Rattle.packed.specs.Judge.{weighs, follows}
 use Rattle.packed.specs.ReadSum.{readCoefficient, readExponents, readTerm, readTerms, readSum, readWhole}
 use Rattle.packed.specs.Whole.{judged}
-use Rattle.router.specs.Bytes.{plainNumber, signedNumber, plainBytes, signedBytes}
-use Rattle.router.specs.Readings.{twoByteNumbers, spelled, beforeNegative, judgeReadings}
-use Rattle.router.specs.Cases.{ofLetters, eight, numbersIn, together, valueAt, isWithin}
-use Rattle.router.specs.Estimate.{judgeRange, judgeTerms, judgeEstimate, answerInto, estimate}
+use Rattle.numbers.specs.Bytes.{plainNumber, signedNumber, plainBytes, signedBytes}
+use Rattle.estimates.specs.Readings.{twoByteNumbers, spelled, beforeNegative, judgeReadings}
+use Rattle.router.specs.Cases.{ofLetters, inBytes, numbersIn, together, valueAt, isWithin}
+use Rattle.estimates.specs.Range.{judgeRange, judgeTerms}
+use Rattle.router.specs.Estimate.{judgeEstimate, answerInto, estimate}
 
 -- ---- A case is about packed bytes, readings and tolerances.
 
@@ -40,12 +41,12 @@ pub data Case : Type 0 where
   reaches : List ℕ → List ℤ → List ℤ → List ℤ → ℤ → Case
 
 abbrev pub Says : Case → Type 0
-Says (gives bytes rs ts said) = numbersIn (judgeEstimate bytes (eight rs) (eight ts)) ≡ said
+Says (gives bytes rs ts said) = numbersIn (judgeEstimate bytes (inBytes rs) (inBytes ts)) ≡ said
 Says (takes bytes readings tolerances said) = numbersIn (judgeEstimate bytes readings tolerances) ≡ said
-Says (leaves bytes rs ts area area' number) = hosted narrowUnit (estimate bytes (eight rs) (eight ts) area) ≡ (number, area')
+Says (leaves bytes rs ts area area' number) = hosted narrowUnit (estimate bytes (inBytes rs) (inBytes ts) area) ≡ (number, area')
 Says (reaches bytes rs ts xs n) =
     (isWithin (ofLetters xs) (ofLetters rs) (unsigned (ofLetters ts)) ≡ true)
-    × ((valueAt (judged SUM (readWhole variables bytes)) (ofLetters xs) ≡ good n) × (together (judgeEstimate bytes (eight rs) (eight ts)) ≡ good n))
+    × ((valueAt (judged SUM (readWhole variables bytes)) (ofLetters xs) ≡ good n) × (together (judgeEstimate bytes (inBytes rs) (inBytes ts)) ≡ good n))
 
 -- ---- Short names. A coefficient stands as its code: 2n for n from 0 up, and −2n − 1 for n below.
 

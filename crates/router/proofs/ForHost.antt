@@ -11,9 +11,9 @@ use Rattle.answers.specs.Inside.Fits.{fitsHost}
 use Rattle.answers.proofs.Hosting.{between, within, within-fits, narrow-heard, outcome-heard}
 use Rattle.answers.specs.Promised.{Numbered, Hearable}
 use Rattle.packed.proofs.Results.{fault-small}
-use Rattle.router.specs.Readings.{twoByteNumbers}
+use Rattle.estimates.specs.Readings.{twoByteNumbers}
 use Rattle.router.specs.Estimate.{estimate}
-use Rattle.router.proofs.Tolerances.{negative-inside}
+use Rattle.estimates.proofs.Tolerances.{negative-inside}
 use Rattle.router.specs.Promised.{EstimateRefuses, EstimateRefuses.no-room, EstimateRefuses.at-sum, EstimateRefuses.at-length, EstimateRefuses.at-tolerance, EstimateRefuses.beyond}
 use Rattle.router.proofs.Estimating.{estimate-means, estimate-refuses}
 

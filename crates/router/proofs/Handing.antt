@@ -8,7 +8,8 @@ use Rattle.algebra.specs.Sum.{Sum}
 use Rattle.algebra.specs.Held.{firstTerms}
 use Rattle.answers.specs.Answers.{Told, Outcome, outcome}
 use Rattle.packed.proofs.Results.{Handed, Whole, written-terms}
-use Rattle.router.specs.Estimate.{judgeTerms, answerBytes, answerInto, estimate}
+use Rattle.estimates.specs.Range.{judgeTerms}
+use Rattle.router.specs.Estimate.{answerBytes, answerInto, estimate}
 use Rattle.router.proofs.Estimating.{refuses-estimate, after-sum}
 use Rattle.router.specs.Promised.{EstimateRefuses.at-sum}
 

@@ -9,16 +9,16 @@ use Rattle.algebra.specs.Limits.{variables}
 use Rattle.algebra.specs.Sum.{Sum}
 use Rattle.algebra.specs.Value.{value}
 use Rattle.answers.specs.Judge.{Judged, Judged.good, Judged.fails}
-use Rattle.router.specs.Readings.{spelled}
-use Rattle.router.specs.Estimate.{Estimate}
+use Rattle.estimates.specs.Readings.{spelled}
+use Rattle.estimates.specs.Range.{Estimate}
 
 -- numbers of the first letters; those of the others are 0
 abbrev pub ofLetters : List ℤ → List ℤ
 ofLetters ns = ns ++ replicate (variables - length ns) (pos 0)
 
 -- the same in bytes
-abbrev pub eight : List ℤ → List ℕ
-eight ns = spelled (ofLetters ns)
+abbrev pub inBytes : List ℤ → List ℕ
+inBytes ns = spelled (ofLetters ns)
 
 abbrev pub numbersIn : Judged Estimate → Judged (ℤ × ℕ)
 numbersIn (good e) = good (e .estimate, e .margin)

@@ -1,11 +1,9 @@
 -- What is promised of the estimate: when it is done, with what, and when it is refused, and how.
 use mathlib.Core.Path.{_≡_}
-use mathlib.Core.Bool.{true, false}
-use mathlib.Core.List.{List, map}
+use mathlib.Core.List.{List}
 use Prim.Native.Nat.{ℕ, _≤_, _<_}
-use lib.IntN.{ℤ, pos}
-use lib.ListN.{length, getD}
-use lib.Signed.{nonNeg}
+use lib.IntN.{ℤ}
+use lib.ListN.{length}
 use Rattle.algebra.specs.Limits.{variables, largestWeight}
 use Rattle.algebra.specs.Sum.{Sum}
 use Rattle.algebra.specs.Value.{value}
@@ -14,32 +12,9 @@ use Rattle.answers.specs.Refusals.{ROOM, SUM, READING, RANGE}
 use Rattle.answers.specs.Areas.{written}
 use Rattle.packed.specs.ReadSum.{readWhole}
 use Rattle.packed.specs.Promised.{PackedSum, AtFault}
-use Rattle.router.specs.Readings.{readingBytes, twoByteNumbers}
+use Rattle.estimates.specs.Readings.{twoByteNumbers}
+use Rattle.estimates.specs.Promised.{RightLength, Given, FirstNegative}
 use Rattle.router.specs.Estimate.{answerBytes, answerOf}
-
--- ---- Readings and tolerances.
-
--- both are as long as they must be
-pub record RightLength (readings tolerances : List ℕ) : Type 0 where
-  pub readings-long : length readings ≡ readingBytes variables
-  pub tolerances-long : length tolerances ≡ readingBytes variables
-
--- the readings are rs; the tolerances are ts, none of them negative
-pub record Given (readings tolerances : List ℕ) (rs : List ℤ) (ts : List ℕ) : Type 0 where
-  pub long : RightLength readings tolerances
-  pub readings-are : twoByteNumbers readings ≡ rs
-  pub tolerances-are : twoByteNumbers tolerances ≡ map pos ts
-
--- no tolerance before place v is negative
-abbrev pub NoneBefore : List ℤ → ℕ → Type 0
-NoneBefore ts v = (i : ℕ) → i < v → nonNeg (getD ts i (pos 0)) ≡ true
-
--- the one at place v is negative, and none before it
-pub record FirstNegative (ts : List ℤ) (v : ℕ) : Type 0 where
-  pub negative-there : nonNeg (getD ts v (pos 0)) ≡ false
-  pub none-before : NoneBefore ts v
-
--- ---- The outcomes.
 
 -- it is done: every check passes, and the answer has the value at the readings and the margin
 pub record Estimated (bytes readings tolerances area : List ℕ) (n : ℕ) (area' : List ℕ) : Type 0 where

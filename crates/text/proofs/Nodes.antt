@@ -8,7 +8,7 @@ use lib.ListN.{length, length-append}
 use lib.Seq.{sets}
 use Rattle.algebra.specs.Limits.{mostNodes}
 use Rattle.nodes.specs.Node.{Kind, numbersOf, tableOf}
-use Rattle.packed.proofs.Writing.{sets-append}
+use Rattle.numbers.proofs.Writing.{sets-append}
 use Rattle.formula.proofs.Passing.{table-length}
 use Rattle.text.specs.Tree.{Tree, nodeCount, nodesOf}
 use Rattle.text.specs.Inside.Laid.{putNode, Laid}

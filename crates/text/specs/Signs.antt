@@ -2,14 +2,12 @@
 use mathlib.Core.Bool.{Bool, _&&_}
 use Prim.Native.Nat.{ℕ}
 use lib.Dec.{leb}
+-- - and 0, as in numbers that are printed
+pub use Rattle.numbers.specs.Decimal.{minusSign, zeroDigit}
 
 -- +
 abbrev pub plusSign : ℕ
 plusSign = 43
-
--- -
-abbrev pub minusSign : ℕ
-minusSign = 45
 
 -- *
 abbrev pub timesSign : ℕ
@@ -26,10 +24,6 @@ openBracket = 40
 -- )
 abbrev pub closeBracket : ℕ
 closeBracket = 41
-
--- 0; the digits stand one after the other
-abbrev pub zeroDigit : ℕ
-zeroDigit = 48
 
 -- 9
 abbrev pub nineDigit : ℕ

@@ -5,11 +5,13 @@ use mir.ValLaws.{toZ-ofZ}
 use Rattle.algebra.specs.Word.{terms}
 use Rattle.answers.specs.Answers.{Told.done, outcome}
 use Rattle.answers.specs.Areas.{written}
-use Rattle.router.specs.Estimate.{answerBytes, answerOf, judgeTerms}
-use Rattle.router.specs.Inside.Found.{foundOf}
-use Rattle.router.proofs.Estimating.{terms-not-long, terms-negative, terms-given, range-margin, refused-leaves, done-leaves}
-use Rattle.router.specs.Promised.{RightLength}
-use Rattle.router.proofs.Answering.{stops, passes, are-given, not-within}
+use Rattle.estimates.specs.Range.{judgeTerms}
+use Rattle.router.specs.Estimate.{answerBytes, answerOf}
+use Rattle.estimates.specs.Inside.Found.{foundOf}
+use Rattle.estimates.proofs.JudgeTerms.{terms-not-long, terms-negative, terms-given, range-margin, stops, passes, are-given}
+use Rattle.estimates.proofs.EstimateAt.{not-within}
+use Rattle.router.proofs.Estimating.{refused-leaves, done-leaves}
+use Rattle.estimates.specs.Promised.{RightLength}
 use borrow.Author.Needs.{needs}
 use Rattle.router.proofs.estimate_terms.Statement.{statement}
 use Rattle.router.proofs.estimate_terms.Tie as tie
@@ -39,8 +41,8 @@ before-negative-requires : tie.Need-before-negative-requires
 before-negative-requires c κs = search needs
 
 -- both lengths are right
-long : (d : tie.After-before-negative) → RightLength (d .before .before .before .before .before .before .before .before .before .before .before .before .before .before .args .readings .now) (d .before .before .before .before .before .before .before .before .before .before .before .before .before .before .args .tolerances .now)
-long d = record { readings-long = d .before .before .before .before .before .before .before .before .before .if1 .left; tolerances-long = d .before .before .before .before .before .before .before .before .if2 .left }
+long : (d : tie.After-before-negative) → let a = d .before .before .before .before .before .before .before .before .before .before .before .before .before .before .args in RightLength (a .readings .now) (a .tolerances .now)
+long d = let e = d .before .before .before .before .before .before .before .before in record { readings-long = e .before .if1 .left; tolerances-long = e .if2 .left }
 
 returns-3 : tie.Need-returns-3
 returns-3 c =

@@ -7,14 +7,14 @@ use borrow.Author.Needs.{needs}
 use Rattle.router.proofs.write_answer.Statement.{statement}
 use Rattle.router.proofs.write_answer.Tie as tie
 
-write-number-requires : tie.Need-write-number-requires
-write-number-requires c κs = search needs
+write-whole-requires : tie.Need-write-whole-requires
+write-whole-requires c κs = search needs
 
-cast-write-number : tie.Need-cast-write-number
-cast-write-number c = search needs
+cast-write-whole : tie.Need-cast-write-whole
+cast-write-whole c = search needs
 
-write-number-requires-2 : tie.Need-write-number-requires-2
-write-number-requires-2 c κs = search needs
+write-whole-requires-2 : tie.Need-write-whole-requires-2
+write-whole-requires-2 c κs = search needs
 
 same-length : tie.Need-same-length
 same-length c = search needs
@@ -23,9 +23,9 @@ returns : tie.Need-returns
 returns c =
     let first = c .before .before .before .before .before .before .before .before .before in
     answer-written (first .args .answer .now) (first .pre .1) (toZ-ofZ w64 (first .args .estimate) (first .fits .estimate)) (toZ-pos w64 (first .args .margin) (omega (arith, first .pre .0)))
-    (c .before .before .before .before .before .before .write-number .ensures) (c .before .before .write-number2 .ensures)
+    (c .before .before .before .before .before .before .write-whole .ensures) (c .before .before .write-whole2 .ensures)
 
 pub write-answer-spec : {M : Type 1} → statement M
 write-answer-spec =
     tie.close
-    (tie.spec write-number-requires cast-write-number write-number-requires-2 same-length returns)
+    (tie.spec write-whole-requires cast-write-whole write-whole-requires-2 same-length returns)

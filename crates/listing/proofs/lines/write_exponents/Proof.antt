@@ -10,10 +10,10 @@ use Rattle.algebra.specs.Limits.{variables}
 use Rattle.algebra.specs.Pattern.{exponent}
 use Rattle.algebra.specs.Word.{exponents}
 use Rattle.algebra.proofs.Patterns.Word.{exponents-length}
-use Rattle.packed.proofs.Writing.{Writing, start, has-room, next}
-use Rattle.listing.specs.Decimal.{decimal}
+use Rattle.numbers.proofs.Writing.{Writing, start, has-room, next}
+use Rattle.numbers.specs.Decimal.{decimal}
 use Rattle.listing.specs.Lines.{newline, blank, exponentsLine}
-use Rattle.listing.proofs.Steps.{left-as, byte-room, byte, finished}
+use Rattle.numbers.proofs.Writing.{left-as, byte-room, byte, finished}
 use Rattle.listing.proofs.lines.write_exponents.Statement.{statement}
 use Rattle.listing.proofs.lines.write_exponents.Tie as tie
 

@@ -2,9 +2,9 @@
 use mathlib.Core.Path.{refl}
 use mathlib.Core.List.{_++_}
 use borrow.Author.Needs.{needs}
-use Rattle.packed.proofs.Writing.{Writing, start, has-room, next}
-use Rattle.listing.specs.Decimal.{decimal}
-use Rattle.listing.proofs.Steps.{finished}
+use Rattle.numbers.proofs.Writing.{Writing, start, has-room, next}
+use Rattle.numbers.specs.Decimal.{decimal}
+use Rattle.numbers.proofs.Writing.{finished}
 use Rattle.listing.proofs.lines.write_numbered.Statement.{statement}
 use Rattle.listing.proofs.lines.write_numbered.Tie as tie
 

@@ -5,10 +5,10 @@ use Prim.Native.Nat.{ℕ, _+_, _≤_}
 use lib.ListN.{length}
 use lib.Seq.{sets}
 use borrow.Author.Needs.{needs}
-use Rattle.packed.proofs.Writing.{Writing, has-room, next}
+use Rattle.numbers.proofs.Writing.{Writing, has-room, next}
 use Rattle.answers.specs.Quoted.{quoted}
 use Rattle.listing.specs.Lines.{newline, numbered, refusalLine}
-use Rattle.listing.proofs.Steps.{first, byte-room, byte, completed}
+use Rattle.numbers.proofs.Writing.{first, byte-room, byte, completed}
 use Rattle.listing.proofs.lines.write_refusal.Statement.{statement}
 use Rattle.listing.proofs.lines.write_refusal.Tie as tie
 

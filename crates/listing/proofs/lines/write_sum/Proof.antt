@@ -14,10 +14,10 @@ use Rattle.algebra.specs.Word.{exponents}
 use Rattle.algebra.specs.Held.{firstTerms}
 use Rattle.numbers.proofs.Signs.{held}
 use Rattle.packed.proofs.Front.{front-length, front-next}
-use Rattle.packed.proofs.Writing.{Writing, start, has-room, next, joined}
+use Rattle.numbers.proofs.Writing.{Writing, start, has-room, next, joined}
 use Rattle.answers.specs.Quoted.{quoted}
 use Rattle.listing.specs.Lines.{newline, numbered, termLine, termLines, sumLines}
-use Rattle.listing.proofs.Steps.{left-as, first, byte-room, byte, completed}
+use Rattle.numbers.proofs.Writing.{left-as, first, byte-room, byte, completed}
 use Rattle.listing.proofs.lines.write_sum.Statement.{statement}
 use Rattle.listing.proofs.lines.write_sum.Tie as tie
 

@@ -12,10 +12,10 @@ use Rattle.algebra.specs.Pattern.{Pattern}
 use Rattle.algebra.specs.Sum.{term}
 use Rattle.algebra.specs.Word.{exponents}
 use Rattle.numbers.proofs.Signs.{held}
-use Rattle.packed.proofs.Writing.{Writing, start, has-room, next}
-use Rattle.listing.specs.Decimal.{signedDecimal}
+use Rattle.numbers.proofs.Writing.{Writing, start, has-room, next}
+use Rattle.numbers.specs.Decimal.{signedDecimal}
 use Rattle.listing.specs.Lines.{exponentsLine, termLine}
-use Rattle.listing.proofs.Steps.{left-as, finished}
+use Rattle.numbers.proofs.Writing.{left-as, finished}
 use Rattle.listing.proofs.lines.write_term.Statement.{statement}
 use Rattle.listing.proofs.lines.write_term.Tie as tie
 

@@ -15,7 +15,7 @@ use Rattle.algebra.proofs.Patterns.Word.{exponents-length}
 use Rattle.numbers.proofs.Numbers.{number-one}
 use Rattle.packed.specs.Packed.{exponentBytes}
 use Rattle.packed.proofs.Sizes.{exponent-bytes-length}
-use Rattle.packed.proofs.Writing.{Writing, start, has-room, next, ended}
+use Rattle.numbers.proofs.Writing.{Writing, start, has-room, next, ended}
 use Rattle.packed.proofs.writer.write_exponents.Statement.{statement}
 use Rattle.packed.proofs.writer.write_exponents.Tie as tie
 

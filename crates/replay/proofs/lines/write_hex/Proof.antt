@@ -3,7 +3,7 @@ use mathlib.Core.Path.{refl}
 use Prim.Native.Nat.{_-_}
 use native.Mathlib.Omega.{arith}
 use lib.ListN.{length, length-set, getD}
-use Rattle.packed.proofs.Writing.{Writing}
+use Rattle.numbers.proofs.Writing.{Writing}
 use Rattle.replay.specs.Hex.{inHex}
 use Rattle.replay.proofs.Hexing.{hexFrom, hex-start, hex-room, hex-again, hex-ended, two-set}
 use borrow.Author.Needs.{needs}

@@ -7,7 +7,7 @@ use lib.ListN.{length, getD, length-map, List·getD-map}
 use mir.Syntax.{w64}
 use mir.Val.{SFits, ofZ, toZ}
 use mir.ValLaws.{toZ-ofZ}
-use Rattle.packed.proofs.Writing.{Writing}
+use Rattle.numbers.proofs.Writing.{Writing}
 use Rattle.replay.specs.Hex.{inHex, bitsOf}
 use Rattle.replay.proofs.Hexing.{hexFrom, hex-start, hex-room, hex-again, hex-ended}
 use borrow.Author.Needs.{needs}

@@ -2,7 +2,7 @@
 use mathlib.Core.Path.{refl}
 use Prim.Native.Nat.{_-_}
 use lib.ListN.{length}
-use Rattle.packed.proofs.Writing.{Writing}
+use Rattle.numbers.proofs.Writing.{Writing}
 use Rattle.replay.specs.Hex.{inHex}
 use Rattle.replay.proofs.Hexing.{hexFrom, hex-start, hex-room, hex-again, hex-ended}
 use borrow.Author.Needs.{needs}
