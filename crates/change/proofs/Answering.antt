@@ -19,7 +19,8 @@ use Rattle.answers.proofs.Answer as answer
 use Rattle.answers.proofs.Judging.{then-good, then-fails}
 use Rattle.packed.specs.Result.{packedInto}
 use Rattle.packed.proofs.Results.{Handed, sum-given, sum-refused}
-use Rattle.change.specs.Pairs.{Pair, Listed, Listed.listed, mapped, readList, listJudged}
+use Rattle.numbers.specs.Item.{Item, Item.got, mapped}
+use Rattle.change.specs.Pairs.{Pair, ListFault, readList, listJudged}
 use Rattle.change.specs.Substitute.{judgePairs, judgeSubstitute}
 use Rattle.change.specs.Inside.Kept.{listedOf, listFault, pairsFrom, Kept, KeepsRead, CanApply, termsTold, HoldsGood}
 use Rattle.change.specs.declared.lists.Listed as list
@@ -27,7 +28,7 @@ use Rattle.change.specs.declared.lists.Listed.the-variants.{Pairs}
 use Rattle.change.proofs.lists.Listed as list-answer
 use Rattle.change.proofs.ListBytes.{list-written}
 use Rattle.change.specs.Promised.{AllGood}
-use Rattle.change.proofs.Reading.{Alike, Alike.both}
+use Rattle.numbers.proofs.Items.{Alike, Alike.both}
 use Rattle.change.proofs.TakeList.{pairs-stopped, pairs-read}
 use Rattle.change.proofs.Passing.{judge-applied}
 use Rattle.change.proofs.Meaning.{applied-accepted}
@@ -38,7 +39,7 @@ use Rattle.change.proofs.Given.{First, first-few, first-is, first-held,
 pub record Kept-list (pairs vs ns ws : List ℕ) (cs : List ℤ) (n : ℕ) : Type 0 where
   pub ps : List Pair
   pub last : ℕ
-  pub read : readList variables pairs ≡ listed ps last
+  pub read : readList variables pairs ≡ got ps last
   pub all-good : AllGood variables ps
   pub few : n ≤ variables
   pub kept : Kept n vs ns ws cs
@@ -86,7 +87,7 @@ module _ (bytes pairs area : List ℕ) where
     unfolding judgeSubstitute packedInto
     bad-list r key e h = go (listedOf r) (readList variables pairs) refl (pairs-stopped r key (readList variables pairs) e) h
       where
-        go : (x : Listed ℕ) (y : Listed (List Pair)) → readList variables pairs ≡ y → Alike x y → {t : Told} → t ≡ listFault x
+        go : (x : Item ListFault ℕ) (y : Item ListFault (List Pair)) → readList variables pairs ≡ y → Alike x y → {t : Told} → t ≡ listFault x
             → outcome t area ≡ packedInto (judgeSubstitute bytes pairs) area
         go x y is both h =
             ap (λ t. outcome t area) h ∙ sym (sum-given bytes _ area (g .of-bytes) ∙ ap (λ j. packedInto j area) (then-fails _ (ap listJudged is)))

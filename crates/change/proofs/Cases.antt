@@ -23,8 +23,7 @@ use Rattle.packed.specs.Judge.{weighs, follows}
 use Rattle.packed.specs.ReadSum.{readCoefficient, readExponents, readTerm, readTerms, readSum, readWhole}
 use Rattle.packed.specs.Whole.{judged}
 use Rattle.change.specs.Slope.{judgeSlope}
-use Rattle.change.specs.Pairs as listing
-use Rattle.change.specs.Pairs.{readPairs, toTheEnd, readList}
+use Rattle.change.specs.Pairs.{readPairs, readList}
 use Rattle.change.specs.Substitute.{judgePair, judgePairs, judgeSubstitute}
 
 -- ---- A case says what bytes give: packed bytes, or a refusal and its place.
@@ -135,7 +134,7 @@ table =
     ∷ []
 
 pub cases-hold : Each Says table
-unfolding table two alone nothing heaviest half aSquared square every sixteen column times degree same thenBy byPowers order degreeOf weight settle insert gather keep dropZeros collect occurs countNew spread row pairs _⊗_ productSpread power powerSpread slope rows pairRows substitute pairDegree pairWeight largestPower pairSpread holding andThen item.andThen item.provided item.mapped groupsOf numberBytes readByte readGroups readNumber code decode exponentBytes termBytes bytesOfTerms packed weighs follows readCoefficient readExponents readTerm readTerms readSum readWhole judgeSlope listing.andThen listing.provided listing.mapped readPairs toTheEnd readList judgePair judgePairs judgeSubstitute
+unfolding table two alone nothing heaviest half aSquared square every sixteen column times degree same thenBy byPowers order degreeOf weight settle insert gather keep dropZeros collect occurs countNew spread row pairs _⊗_ productSpread power powerSpread slope rows pairRows substitute pairDegree pairWeight largestPower pairSpread holding andThen item.andThen item.provided item.mapped groupsOf numberBytes readByte readGroups readNumber code decode exponentBytes termBytes bytesOfTerms packed weighs follows readCoefficient readExponents readTerm readTerms readSum readWhole judgeSlope item.renamed readPairs readList judgePair judgePairs judgeSubstitute
 cases-hold =
     refl also refl also refl
     also refl also refl also refl

@@ -21,7 +21,8 @@ use Rattle.packed.specs.Result.{WorkAreas, packedInto, beside}
 use Rattle.packed.proofs.Results.{fault-judged, sum-judged, Reading, Reading.a-sum, Reading.a-fault, reading}
 use Rattle.packed.specs.Promised.{PackedSum, AtFault, WorkRoom, clearedWith}
 use Rattle.packed.proofs.Working.{hasRoom, tested-room, tested-none, worked, with-room, without-room}
-use Rattle.change.specs.Pairs.{Pair, listBytes, ListFault, Listed, Listed.listed, Listed.faulty, readList, refusalOf, listJudged}
+use Rattle.numbers.specs.Item.{Item, Item.got, Item.stopped}
+use Rattle.change.specs.Pairs.{Pair, listBytes, ListFault, readList, refusalOf, listJudged}
 use Rattle.change.specs.Substitute.{judgePairs, judgeSubstitute, substitute}
 use Rattle.change.specs.Checks.{Applied}
 use Rattle.change.specs.Promised.{AllGood, Substituted, SubstituteRefuses, SubstituteRefuses.no-room, SubstituteRefuses.at-sum, SubstituteRefuses.at-list, SubstituteRefuses.at-pair}
@@ -43,12 +44,12 @@ module _ (bytes list ws : List ℕ) (cs : List ℤ) (area : List ℕ) where
       → substitute bytes list ws cs area ≡ beside (cleared 0 workPlaces ws) (cleared (pos 0) workPlaces cs) (packedInto j area)
   after-room r e = substitute-worked ∙ with-room (judgeSubstitute bytes list) ws cs area r ∙ ap (λ j. beside (cleared 0 workPlaces ws) (cleared (pos 0) workPlaces cs) (packedInto j area)) e
 
-  after-both : {s : Sum} {ps : List Pair} {last : ℕ} → PackedSum bytes s → readList variables list ≡ listed ps last
+  after-both : {s : Sum} {ps : List Pair} {last : ℕ} → PackedSum bytes s → readList variables list ≡ got ps last
       → judgeSubstitute bytes list ≡ judgePairs 0 ps s
   unfolding judgeSubstitute
   after-both read listed-so = then-good _ (sum-judged read) ∙ then-good _ (ap listJudged listed-so)
 
-  all-applied : WorkRoom ws cs area → {s t : Sum} {ps : List Pair} {last : ℕ} → PackedSum bytes s → readList variables list ≡ listed ps last
+  all-applied : WorkRoom ws cs area → {s t : Sum} {ps : List Pair} {last : ℕ} → PackedSum bytes s → readList variables list ≡ got ps last
       → Applied ps s t → substitute bytes list ws cs area ≡ outcome (done (length (packed t))) (clearedWith ws cs (written (packed t) area))
   unfolding packedInto
   all-applied r read listed-so a = after-room r (after-both read listed-so ∙ applied-judge 0 a)
@@ -81,7 +82,7 @@ module _ (bytes list ws : List ℕ) (cs : List ℤ) (area : List ℕ) (byte : (i
   refused-so : {refusal p : ℕ} {areas : WorkAreas} → SubstituteRefuses bytes list ws cs area refusal p areas → Explains (substitute bytes list ws cs area)
   refused-so d = subst Explains (sym (refuses-substitute bytes list ws cs area d)) d
 
-  pairs-tried : WorkRoom ws cs area → {s : Sum} {ps : List Pair} {last : ℕ} → PackedSum bytes s → readList variables list ≡ listed ps last
+  pairs-tried : WorkRoom ws cs area → {s : Sum} {ps : List Pair} {last : ℕ} → PackedSum bytes s → readList variables list ≡ got ps last
       → Verdict ps s → Explains (substitute bytes list ws cs area)
   pairs-tried r {s} {ps} {last} read listed-so (first refusal j f) = refused-so (at-pair r read listed-so f)
   pairs-tried r {s} {ps} {last} read listed-so (all t a) =
@@ -107,9 +108,9 @@ module _ (bytes list ws : List ℕ) (cs : List ℤ) (area : List ℕ) (byte : (i
   explained : Explains (substitute bytes list ws cs area)
   explained = room (hasRoom ws cs area) refl
     where
-      pairs : WorkRoom ws cs area → {s : Sum} → PackedSum bytes s → (r : Listed (List Pair)) → readList variables list ≡ r → Explains (substitute bytes list ws cs area)
-      pairs h {s} read (listed ps last) e = pairs-tried h read e (verdict ps s)
-      pairs h read (faulty what p) e = refused-so (at-list h read e)
+      pairs : WorkRoom ws cs area → {s : Sum} → PackedSum bytes s → (r : Item ListFault (List Pair)) → readList variables list ≡ r → Explains (substitute bytes list ws cs area)
+      pairs h {s} read (got ps last) e = pairs-tried h read e (verdict ps s)
+      pairs h read (stopped what p) e = refused-so (at-list h read e)
 
       sum : WorkRoom ws cs area → Reading bytes → Explains (substitute bytes list ws cs area)
       sum h (a-sum s read) = pairs h read (readList variables list) refl

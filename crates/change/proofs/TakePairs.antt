@@ -10,61 +10,61 @@ use lib.ListN.{length, getD, drop, set, length-set}
 use borrow.Rule.Slice.PartMut.{midOf, putMid, same-len-mid}
 use Rattle.algebra.specs.Limits.{variables, mostTerms, workPlaces}
 use Rattle.algebra.specs.Accepted.{Accepted}
-use Rattle.numbers.specs.Item.{Item, Item.got}
+use Rattle.numbers.specs.Item.{Item, Item.got, Item.stopped, mapped, Fault}
 use Rattle.numbers.specs.Number.{readNumber}
-use Rattle.numbers.proofs.Items as items
 use Rattle.packed.specs.ReadSum.{readSum}
 use Rattle.packed.proofs.Trip.{sum-written}
 use Rattle.packed.proofs.Taking.{ReadAt}
 use Rattle.sums.proofs.Parts.{span}
-use Rattle.change.specs.Pairs.{Pair, pair, ListFault, ListFault.unknown, Listed, Listed.listed, Listed.faulty, mapped, readPairs}
+use Rattle.change.specs.Pairs.{Pair, pair, ListFault, ListFault.item, ListFault.unknown, readPairs}
 use Rattle.change.specs.Inside.Kept.{itemFault, pairsFrom, Kept, KeepsRead}
 use Rattle.change.specs.declared.lists.Listed.the-variants as answer
-use Rattle.change.proofs.Reading.{never, then-got, provided-yes, mapped-listed, mapped-mapped, From, carry, Alike, Alike.both, alike-then, alike-provided, alike-mapped, alike-shown}
+use Rattle.numbers.proofs.Items.{never, then-got, provided-yes, mapped-got, mapped-mapped, From, carry, Alike, Alike.both, alike-provided, alike-mapped, alike-shown, renamed-got}
+use Rattle.change.proofs.Reading.{item-stops}
 use Rattle.change.proofs.Keeping.{pairs-many, stays-put, kept-next, pairs-next}
 
 -- ---- What a reader of pairs answers and leaves, where it read so.
 
-pub record Leaves (read : Listed (List Pair)) (answer : Listed ℕ) (ws₀ : List ℕ) (cs₀ : List ℤ) (vs ns ws : List ℕ) (cs : List ℤ) : Type 0 where
+pub record Leaves (read : Item ListFault (List Pair)) (answer : Item ListFault ℕ) (ws₀ : List ℕ) (cs₀ : List ℤ) (vs ns ws : List ℕ) (cs : List ℤ) : Type 0 where
   pub says : answer ≡ mapped length read
   pub keeps : KeepsRead read vs ns ws cs
   pub words-stay : drop workPlaces ws ≡ drop workPlaces ws₀
   pub coefficients-stay : drop workPlaces cs ≡ drop workPlaces cs₀
 
 -- nothing is kept where nothing was read
-none-kept : {answer : Listed ℕ} {read : Listed (List Pair)} (vs ns ws : List ℕ) (cs : List ℤ) → Alike answer read → KeepsRead read vs ns ws cs
+none-kept : {answer : Item ListFault ℕ} {read : Item ListFault (List Pair)} (vs ns ws : List ℕ) (cs : List ℤ) → Alike answer read → KeepsRead read vs ns ws cs
 none-kept vs ns ws cs both = record { kept = λ ps next e. absurd (never e); pairs-are = λ ps next e. absurd (never e) }
 
-pub leaves-fault : {read : Listed (List Pair)} {answer told : Listed ℕ} (ws₀ : List ℕ) (cs₀ : List ℤ) (vs ns ws : List ℕ) (cs : List ℤ) → answer ≡ told → Alike told read
+pub leaves-fault : {read : Item ListFault (List Pair)} {answer told : Item ListFault ℕ} (ws₀ : List ℕ) (cs₀ : List ℤ) (vs ns ws : List ℕ) (cs : List ℤ) → answer ≡ told → Alike told read
     → drop workPlaces ws ≡ drop workPlaces ws₀ → drop workPlaces cs ≡ drop workPlaces cs₀ → Leaves read answer ws₀ cs₀ vs ns ws cs
 leaves-fault ws₀ cs₀ vs ns ws cs is a words coefficients =
     record { says = is ∙ alike-shown length a; keeps = none-kept vs ns ws cs a; words-stay = words; coefficients-stay = coefficients }
 
 -- what was read is all there is
-pub leaves-all : {read whole : Listed (List Pair)} {n end : ℕ} (ws₀ : List ℕ) (cs₀ : List ℤ) (vs ns ws : List ℕ) (cs : List ℤ)
+pub leaves-all : {read whole : Item ListFault (List Pair)} {n end : ℕ} (ws₀ : List ℕ) (cs₀ : List ℤ) (vs ns ws : List ℕ) (cs : List ℤ)
     → whole ≡ read → From length read n end → KeepsRead read vs ns ws cs
-    → drop workPlaces ws ≡ drop workPlaces ws₀ → drop workPlaces cs ≡ drop workPlaces cs₀ → Leaves whole (listed n end) ws₀ cs₀ vs ns ws cs
+    → drop workPlaces ws ≡ drop workPlaces ws₀ → drop workPlaces cs ≡ drop workPlaces cs₀ → Leaves whole (got n end) ws₀ cs₀ vs ns ws cs
 leaves-all {n = n} {end = end} ws₀ cs₀ vs ns ws cs same from keeps words coefficients = record {
-  says = ap (λ (m : ℕ). listed m end) (sym (from .shown)) ∙ sym (mapped-listed length (same ∙ from .is));
+  says = ap (λ (m : ℕ). got m end) (sym (from .shown)) ∙ sym (mapped-got length (same ∙ from .is));
   keeps = rw same keeps;
   words-stay = words;
   coefficients-stay = coefficients;
 }
 
 -- as the contracts say it
-pub tells : {read : Listed (List Pair)} {answer : Listed ℕ} {ws₀ : List ℕ} {cs₀ : List ℤ} {vs ns ws : List ℕ} {cs : List ℤ} → Leaves read answer ws₀ cs₀ vs ns ws cs
+pub tells : {read : Item ListFault (List Pair)} {answer : Item ListFault ℕ} {ws₀ : List ℕ} {cs₀ : List ℤ} {vs ns ws : List ℕ} {cs : List ℤ} → Leaves read answer ws₀ cs₀ vs ns ws cs
     → (answer ≡ mapped length read) × (KeepsRead read vs ns ws cs × ((drop workPlaces ws ≡ drop workPlaces ws₀) × (drop workPlaces cs ≡ drop workPlaces cs₀)))
 tells l = (l .says, (l .keeps, (l .words-stay, l .coefficients-stay)))
 
 -- what was read is kept
-read-kept : {read : Listed (List Pair)} {vs ns ws : List ℕ} {cs : List ℤ} {j place : ℕ} (pairs : List Pair) → length pairs ≡ j → read ≡ listed pairs place
+read-kept : {read : Item ListFault (List Pair)} {vs ns ws : List ℕ} {cs : List ℤ} {j place : ℕ} (pairs : List Pair) → length pairs ≡ j → read ≡ got pairs place
     → Kept j vs ns ws cs → pairsFrom 0 j vs ns ws cs ≡ pairs → KeepsRead read vs ns ws cs
 read-kept {read} {vs} {ns} {ws} {cs} {j} {place} pairs many is kept are = record {
   kept = λ ps next e. rw (same ps next e) kept;
   pairs-are = λ ps next e. rw (same ps next e) are ∙ carry (λ qs n. pairs ≡ qs) (sym is ∙ e) refl;
 }
   where
-    same : (ps : List Pair) (next : ℕ) → read ≡ listed ps next → length ps ≡ j
+    same : (ps : List Pair) (next : ℕ) → read ≡ got ps next → length ps ≡ j
     same ps next e = carry (λ qs n. length qs ≡ j) (sym is ∙ e) many
 
 -- ---- The loop.
@@ -108,18 +108,18 @@ start s at count vs ns ws cs few variables-room numbers-room words-room coeffici
       coefficients-stay = refl;
     }
   where
-    as-read : (r : Listed (List Pair)) → r ≡ mapped (λ rest. rest) r
-    as-read (listed ps next) = unfold mapped in refl
-    as-read (faulty what place) = unfold mapped in refl
+    as-read : (r : Item ListFault (List Pair)) → r ≡ mapped (λ rest. rest) r
+    as-read (got ps next) = unfold mapped in refl
+    as-read (stopped what place) = unfold mapped in refl
 
 module _ {s : List ℕ} {at count : ℕ} {vs₀ ns₀ ws₀ : List ℕ} {cs₀ : List ℤ} {place j : ℕ} {vs ns ws : List ℕ} {cs : List ℤ}
     (t : Taking s at count vs₀ ns₀ ws₀ cs₀ place j vs ns ws cs) where
   -- a fault of the next pair is that of all
-  fault-so : {answer : Listed ℕ} → Alike answer (readPairs variables (count - j) s place) → Alike answer (readPairs variables count s at)
+  fault-so : {answer : Item ListFault ℕ} → Alike answer (readPairs variables (count - j) s place) → Alike answer (readPairs variables count s at)
   fault-so a = rw (t .so-far) (alike-mapped (λ rest. pairsFrom 0 j vs ns ws cs ++ rest) a)
 
   -- it is answered, with the areas as they are
-  pub stops-here : {answer told : Listed ℕ} → answer ≡ told → Alike told (readPairs variables count s at) → Leaves (readPairs variables count s at) answer ws₀ cs₀ vs ns ws cs
+  pub stops-here : {answer told : Item ListFault ℕ} → answer ≡ told → Alike told (readPairs variables count s at) → Leaves (readPairs variables count s at) answer ws₀ cs₀ vs ns ws cs
   stops-here is a = leaves-fault ws₀ cs₀ vs ns ws cs is a (t .words-stay) (t .coefficients-stay)
 
   module _ (h : j < count) where
@@ -134,7 +134,7 @@ module _ {s : List ℕ} {at count : ℕ} {vs₀ ns₀ ws₀ : List ℕ} {cs₀ :
       coefficients-after : drop workPlaces (putMid (mostTerms * j) (span j) cs ds) ≡ drop workPlaces cs₀
       coefficients-after = stays-put j cs₀ cs ds in-work (omega (arith, t .coefficients-room, t .same-coefficients)) ld (t .coefficients-stay)
 
-      pub stops-lent : {answer told : Listed ℕ} → answer ≡ told → Alike told (readPairs variables count s at)
+      pub stops-lent : {answer told : Item ListFault ℕ} → answer ≡ told → Alike told (readPairs variables count s at)
           → Leaves (readPairs variables count s at) answer ws₀ cs₀ vs ns (putMid (mostTerms * j) (span j) ws ps) (putMid (mostTerms * j) (span j) cs ds)
       stops-lent is a = leaves-fault ws₀ cs₀ vs ns (putMid (mostTerms * j) (span j) ws ps) (putMid (mostTerms * j) (span j) cs ds) is a words-after coefficients-after
 
@@ -142,20 +142,20 @@ module _ {s : List ℕ} {at count : ℕ} {vs₀ ns₀ ws₀ : List ℕ} {cs₀ :
     left = omega arith
 
     -- the number that comes next is at fault
-    pub number-stops : {x : Item ℕ} → items.Alike x (readNumber s place) → Alike (itemFault x) (readPairs variables count s at)
+    pub number-stops : {x : Item Fault ℕ} → Alike x (readNumber s place) → Alike (itemFault x) (readPairs variables count s at)
     unfolding readPairs
-    number-stops a = fault-so (rw left (alike-then _ a))
+    number-stops a = fault-so (rw left (item-stops _ a))
 
     module _ {v next : ℕ} (number : readNumber s place ≡ got v next) where
-      pub variable-stops : variables ≤ v → Alike {A = ℕ} (faulty unknown place) (readPairs variables count s at)
+      pub variable-stops : variables ≤ v → Alike {A = ℕ} (stopped unknown place) (readPairs variables count s at)
       unfolding readPairs
-      variable-stops above = fault-so (rw (left, then-got _ number) (alike-provided unknown place _ (ltb v variables) (λ k. omega (arith, ltb→lt v variables k))))
+      variable-stops above = fault-so (rw (left, then-got _ (renamed-got item number)) (alike-provided unknown place _ (ltb v variables) (λ k. omega (arith, ltb→lt v variables k))))
 
       module _ (known : v < variables) where
         -- the sum after it is at fault
-        pub sum-stops : {x : Item ℕ} → items.Alike x (readSum variables s next) → Alike (itemFault x) (readPairs variables count s at)
+        pub sum-stops : {x : Item Fault ℕ} → Alike x (readSum variables s next) → Alike (itemFault x) (readPairs variables count s at)
         unfolding readPairs
-        sum-stops a = fault-so (rw (left, then-got _ number, provided-yes unknown place _ (ltb v variables) (lt→ltb v variables known)) (alike-then _ a))
+        sum-stops a = fault-so (rw (left, then-got _ (renamed-got item number), provided-yes unknown place _ (ltb v variables) (lt→ltb v variables known)) (item-stops _ a))
 
         -- one pair more
         module _ (byte : (i : ℕ) → getD s i 0 < 256) {n end : ℕ} {ps : List ℕ} {ds : List ℤ}
@@ -188,7 +188,7 @@ module _ {s : List ℕ} {at count : ℕ} {vs₀ ns₀ ws₀ : List ℕ} {cs₀ :
 
           step : readPairs variables (count - j) s place ≡ mapped (λ rest. p ∷ rest) (readPairs variables (count - (j + 1)) s end)
           unfolding readPairs p
-          step = rw left (then-got _ number ∙ provided-yes unknown place _ (ltb v variables) (lt→ltb v variables known) ∙ then-got _ (r .read))
+          step = rw left (then-got _ (renamed-got item number) ∙ provided-yes unknown place _ (ltb v variables) (lt→ltb v variables known) ∙ then-got _ (renamed-got item (r .read)))
 
           pub again : Taking s at count vs₀ ns₀ ws₀ cs₀ end (j + 1) (set vs j v) (set ns j n) (putMid (mostTerms * j) (span j) ws ps) (putMid (mostTerms * j) (span j) cs ds)
           again = record {
@@ -218,16 +218,16 @@ module _ {s : List ℕ} {at count : ℕ} {vs₀ ns₀ ws₀ : List ℕ} {cs₀ :
               joined rest = sym (append-assoc (pairsFrom 0 j vs ns ws cs) (p ∷ []) rest) ∙ ap (λ l. l ++ rest) (sym pairs-are)
 
   -- all pairs are read
-  pub ended : count ≤ j → Leaves (readPairs variables count s at) (listed count place) ws₀ cs₀ vs ns ws cs
+  pub ended : count ≤ j → Leaves (readPairs variables count s at) (got count place) ws₀ cs₀ vs ns ws cs
   unfolding readPairs mapped
   ended h =
       let all : j ≡ count = omega (arith, t .inside) in
       let none : count - j ≡ 0 = omega arith in
       let pairs = pairsFrom 0 j vs ns ws cs in
-      let read : readPairs variables count s at ≡ listed pairs place =
-      t .so-far ∙ ap (λ (m : ℕ). mapped (λ rest. pairs ++ rest) (readPairs variables m s place)) none ∙ ap (λ l. listed l place) (append-nil pairs) in
+      let read : readPairs variables count s at ≡ got pairs place =
+      t .so-far ∙ ap (λ (m : ℕ). mapped (λ rest. pairs ++ rest) (readPairs variables m s place)) none ∙ ap (λ l. got l place) (append-nil pairs) in
       record {
-        says = sym (ap (mapped length) read ∙ ap (λ (m : ℕ). listed m place) (pairs-many vs ns ws cs 0 j ∙ all));
+        says = sym (ap (mapped length) read ∙ ap (λ (m : ℕ). got m place) (pairs-many vs ns ws cs 0 j ∙ all));
         keeps = read-kept pairs (pairs-many vs ns ws cs 0 j) read (t .kept) refl;
         words-stay = t .words-stay;
         coefficients-stay = t .coefficients-stay;

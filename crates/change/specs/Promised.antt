@@ -17,7 +17,8 @@ use Rattle.packed.specs.Packed.{packed, mostBytes}
 use Rattle.packed.specs.ReadSum.{readWhole}
 use Rattle.packed.specs.Result.{WorkAreas}
 use Rattle.packed.specs.Promised.{PackedSum, AtFault, WorkRoom, clearedWith}
-use Rattle.change.specs.Pairs.{Pair, listBytes, ListFault, Listed.listed, Listed.faulty, readList, refusalOf}
+use Rattle.numbers.specs.Item.{Item.got, Item.stopped}
+use Rattle.change.specs.Pairs.{Pair, listBytes, ListFault, readList, refusalOf}
 use Rattle.change.specs.Meaning.{before}
 use Rattle.change.specs.Checks.{Applied, FirstFault}
 
@@ -81,9 +82,9 @@ pub data SubstituteRefuses (bytes list patterns : List ℕ) (coefficients : List
   at-sum : {p : ℕ} → WorkRoom patterns coefficients area → AtFault (readWhole variables bytes) p
       → SubstituteRefuses bytes list patterns coefficients area SUM p (clearedWith patterns coefficients area)
   -- the sum was read, and the list is at fault
-  at-list : {s : Sum} {what : ListFault} {p : ℕ} → WorkRoom patterns coefficients area → PackedSum bytes s → readList variables list ≡ faulty what p
+  at-list : {s : Sum} {what : ListFault} {p : ℕ} → WorkRoom patterns coefficients area → PackedSum bytes s → readList variables list ≡ stopped what p
       → SubstituteRefuses bytes list patterns coefficients area (refusalOf what) p (clearedWith patterns coefficients area)
   -- both were read, and a check of a pair fails
   at-pair : {s : Sum} {ps : List Pair} {last refusal j : ℕ} → WorkRoom patterns coefficients area → PackedSum bytes s
-      → readList variables list ≡ listed ps last → FirstFault ps s refusal j
+      → readList variables list ≡ got ps last → FirstFault ps s refusal j
       → SubstituteRefuses bytes list patterns coefficients area refusal j (clearedWith patterns coefficients area)

@@ -10,7 +10,8 @@ ghost use lib.ListN.{length, drop};
 ghost use Rattle.algebra.specs.Limits.{variables, workPlaces};
 ghost use Rattle.answers.specs.Answers.{told};
 ghost use Rattle.numbers.specs.Inside.Read.{itemOf};
-ghost use Rattle.change.specs.Pairs.{mapped, readPairs, readList};
+ghost use Rattle.numbers.specs.Item.{mapped};
+ghost use Rattle.change.specs.Pairs.{readPairs, readList};
 ghost use Rattle.change.specs.Inside.Kept.{listedOf, itemFault, listFault, KeepsRead};
 
 // Why a list is at fault.

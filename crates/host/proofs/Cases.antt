@@ -42,8 +42,7 @@ use Rattle.text.specs.Tree.{nodeCount, nodesOf}
 use Rattle.text.specs.Reader as reader
 use Rattle.text.specs.Text.{judgeText, tableInto, readFormula}
 use Rattle.change.specs.Slope.{judgeSlope, slope}
-use Rattle.change.specs.Pairs as listing
-use Rattle.change.specs.Pairs.{readPairs, toTheEnd, readList}
+use Rattle.change.specs.Pairs.{readPairs, readList}
 use Rattle.change.specs.Substitute.{judgePair, judgePairs, judgeSubstitute, substitute}
 
 -- ---- A case is a call with its number, and what that tells. The lent areas have just the places that they need, or so many as the case says.
@@ -118,7 +117,7 @@ table =
     ∷ []
 
 pub cases-hold : Each Says table
-unfolding table two square quoted times degree same thenBy byPowers order degreeOf weight wordOf fieldsOf termsBy word exponents terms isValid settle insert gather keep dropZeros collect occurs countNew spread row pairs _⊕_ sumSpread _⊗_ productSpread arithmetic.variable arithmetic.power powerSpread algebra-slope.slope rows pairRows algebra-substitute.substitute pairDegree pairWeight largestPower pairSpread holding andThen item.andThen item.provided item.mapped groupsOf numberBytes readByte readGroups readNumber code decode exponentBytes termBytes bytesOfTerms packed weighs follows readCoefficient readExponents readTerm readTerms readSum readWhole heldInto packedInto unpack isGood goodTerms pack tableOf isIn isKind readNode formalDegree formalWeight nodeSpread nodeSum judgeNode judgeNodes isShape judgeTable tableSum simplify isDigit letterOf nodeCount nodesOf reader.takes reader.moreDigits reader.digitsAt reader.readAtom reader.readExponent reader.readFactor reader.readMore reader.isTimes reader.readTerm reader.isSign reader.signed reader.afterMinus reader.readSum reader.inBrackets reader.readWhole judgeText tableInto readFormula judgeSlope slope listing.andThen listing.provided listing.mapped readPairs toTheEnd readList judgePair judgePairs judgeSubstitute substitute
+unfolding table two square quoted times degree same thenBy byPowers order degreeOf weight wordOf fieldsOf termsBy word exponents terms isValid settle insert gather keep dropZeros collect occurs countNew spread row pairs _⊕_ sumSpread _⊗_ productSpread arithmetic.variable arithmetic.power powerSpread algebra-slope.slope rows pairRows algebra-substitute.substitute pairDegree pairWeight largestPower pairSpread holding andThen item.andThen item.provided item.mapped groupsOf numberBytes readByte readGroups readNumber code decode exponentBytes termBytes bytesOfTerms packed weighs follows readCoefficient readExponents readTerm readTerms readSum readWhole heldInto packedInto unpack isGood goodTerms pack tableOf isIn isKind readNode formalDegree formalWeight nodeSpread nodeSum judgeNode judgeNodes isShape judgeTable tableSum simplify isDigit letterOf nodeCount nodesOf reader.takes reader.moreDigits reader.digitsAt reader.readAtom reader.readExponent reader.readFactor reader.readMore reader.isTimes reader.readTerm reader.isSign reader.signed reader.afterMinus reader.readSum reader.inBrackets reader.readWhole judgeText tableInto readFormula judgeSlope slope item.renamed readPairs readList judgePair judgePairs judgeSubstitute substitute
 cases-hold =
     (refl, refl) also (refl, refl) also (refl, refl)
     also (refl, refl) also (refl, refl) also (refl, refl)

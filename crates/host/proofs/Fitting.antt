@@ -39,12 +39,14 @@ use Rattle.formula.proofs.Simplifying as simplifying
 use Rattle.text.specs.Text.{readFormula}
 use Rattle.text.specs.Promised.{TextRefuses}
 use Rattle.text.proofs.Typing as typing
-use Rattle.change.specs.Pairs.{Pair, ListFault, ListFault.ended, ListFault.damaged, ListFault.unknown, Listed.listed, readList, refusalOf}
+use Rattle.numbers.specs.Item.{Item.got, Fault.cut, Fault.bad}
+use Rattle.change.specs.Pairs.{Pair, ListFault, ListFault.item, ListFault.unknown, readList, refusalOf}
 use Rattle.change.specs.Checks as change-checks
 use Rattle.change.specs.Slope.{slope}
 use Rattle.change.specs.Substitute.{substitute}
 use Rattle.change.proofs.ListBytes.{list-written}
-use Rattle.change.proofs.ListPlaces.{listPlace, list-small}
+use Rattle.numbers.proofs.Items.{placeOf}
+use Rattle.change.proofs.ListPlaces.{list-small}
 use Rattle.change.specs.Promised.{SlopeRefuses, SubstituteRefuses}
 use Rattle.change.proofs.Sloped as sloping
 use Rattle.change.proofs.Substituting as substituting
@@ -159,8 +161,8 @@ module _ (count : ℕ) (ws : List ℕ) (cs : List ℤ) (area : List ℕ) where
 -- ---- Substitution lists.
 
 list-refusal : (what : ListFault) → Numbered (refusalOf what)
-list-refusal ended = between (omega arith) (omega arith)
-list-refusal damaged = between (omega arith) (omega arith)
+list-refusal (item cut) = between (omega arith) (omega arith)
+list-refusal (item bad) = between (omega arith) (omega arith)
 list-refusal unknown = between (omega arith) (omega arith)
 
 pair-refusal : {p : Pair} {s : Sum} {refusal : ℕ} → change-checks.Fails p s refusal → Numbered refusal
@@ -170,7 +172,7 @@ pair-refusal (change-checks.Fails.spread d w s) = between (omega arith) (omega a
 
 module _ (bytes list ws : List ℕ) (cs : List ℤ) (area : List ℕ) (byte : (i : ℕ) → getD bytes i 0 < 256) (list-byte : (i : ℕ) → getD list i 0 < 256) where
   -- a pair that is at fault stands in the list
-  pair-place : {ps : List Pair} {s : Sum} {last refusal j : ℕ} → readList variables list ≡ listed ps last → change-checks.FirstFault ps s refusal j → j < variables
+  pair-place : {ps : List Pair} {s : Sum} {last refusal j : ℕ} → readList variables list ≡ got ps last → change-checks.FirstFault ps s refusal j → j < variables
   pair-place {ps} {s} {last} read f =
       let all = ap length (f .pairs-are) ∙ length-append (f .passed) (f .p ∷ f .rest) in
       omega (arith, all, list-written list list-byte variables ps last read .few, f .at-pair)
@@ -178,7 +180,7 @@ module _ (bytes list ws : List ℕ) (cs : List ℤ) (area : List ℕ) (byte : (i
   substitute-refusal : {refusal place : ℕ} {areas : WorkAreas} → SubstituteRefuses bytes list ws cs area refusal place areas → Placed wideUnit refusal place
   substitute-refusal (SubstituteRefuses.no-room none) = at-zero (between (omega arith) (omega arith))
   substitute-refusal (SubstituteRefuses.at-sum room a) = sum-refusal bytes byte a
-  substitute-refusal (SubstituteRefuses.at-list {what = what} room p e) = placed (list-refusal what) (omega (arith, list-small list list-byte, ap listPlace e))
+  substitute-refusal (SubstituteRefuses.at-list {what = what} room p e) = placed (list-refusal what) (omega (arith, list-small list list-byte, ap placeOf e))
   substitute-refusal (SubstituteRefuses.at-pair room p read f) = placed (pair-refusal (f .fails)) (omega (arith, pair-place read f))
 
   pub substitute-within : Hearable wideUnit (substitute bytes list ws cs area .answer)

@@ -6,7 +6,7 @@ use lib.IntN.{ℤ, pos, negsuc}
 use lib.ListN.{length, replicate}
 use Rattle.answers.proofs.Tables.{_also_}
 use Rattle.answers.specs.Promised.{Each}
-use Rattle.numbers.specs.Item.{Item, Item.got, Item.cut, Item.bad, andThen, provided, mapped}
+use Rattle.numbers.specs.Item.{Item, Item.got, Item.stopped, andThen, provided, mapped, Fault, Fault.cut, Fault.bad}
 use Rattle.numbers.specs.Number.{groupsOf, numberBytes, readByte, readGroups, readNumber}
 use Rattle.numbers.specs.Code.{code, decode}
 
@@ -14,7 +14,7 @@ use Rattle.numbers.specs.Code.{code, decode}
 
 pub data Case : Type 0 where
   written : ℕ → List ℕ → Case
-  reads : List ℕ → ℕ → Item ℕ → Case
+  reads : List ℕ → ℕ → Item Fault ℕ → Case
   codes : ℤ → ℕ → ℕ → Case
 
 abbrev pub Says : Case → Type 0
@@ -36,14 +36,14 @@ table =
     ∷ written 128 (128 ∷ 1 ∷ [])
     ∷ written (2 ^ 64 - 1) (more 9 ++ 1 ∷ [])
     -- a tenth group of 2 or 0, and one that says that more follow
-    ∷ reads (5 ∷ more 9 ++ 2 ∷ []) 1 (bad 1)
-    ∷ reads (5 ∷ more 9 ++ 0 ∷ []) 1 (bad 1)
-    ∷ reads (5 ∷ more 9 ++ 129 ∷ 0 ∷ []) 1 (bad 1)
+    ∷ reads (5 ∷ more 9 ++ 2 ∷ []) 1 (stopped bad 1)
+    ∷ reads (5 ∷ more 9 ++ 0 ∷ []) 1 (stopped bad 1)
+    ∷ reads (5 ∷ more 9 ++ 129 ∷ 0 ∷ []) 1 (stopped bad 1)
     -- a last group of 0 is not the shortest form
-    ∷ reads (5 ∷ 128 ∷ 0 ∷ []) 1 (bad 1)
+    ∷ reads (5 ∷ 128 ∷ 0 ∷ []) 1 (stopped bad 1)
     -- the bytes end inside a number, or before it
-    ∷ reads (5 ∷ more 9) 1 (cut 10)
-    ∷ reads (5 ∷ []) 1 (cut 1)
+    ∷ reads (5 ∷ more 9) 1 (stopped cut 10)
+    ∷ reads (5 ∷ []) 1 (stopped cut 1)
     -- 0, 1 and -1; 2^62 in ten groups, -2^62 in nine; the ends of the range
     ∷ codes (pos 0) 0 1
     ∷ codes (pos 1) 2 1

@@ -11,7 +11,7 @@ use lib.Dec.{eqb, ltb}
 use lib.ListN.{length, getD, drop, length-drop}
 use lib.Seq.{drop-cons}
 use borrow.Author.Tests.{lt-ltb, le-ltb, eq-eqb, ne-eqb}
-use Rattle.numbers.specs.Item.{Item, Item.got, Item.cut, Item.bad, andThen, provided, mapped}
+use Rattle.numbers.specs.Item.{Item, Item.got, Item.stopped, andThen, provided, mapped, Fault, Fault.cut, Fault.bad}
 use Rattle.numbers.specs.Number.{groupsOf, readByte, readGroups}
 
 -- ---- One step of writing.
@@ -60,7 +60,7 @@ groups-bytes (suc more) n small i = go (decLt n 128) (groups-bytes more (n / 128
 -- ---- One step of reading.
 
 -- a number read above low bits: x stands for low + unit · x
-abbrev pub above : ℕ → ℕ → Item ℕ → Item ℕ
+abbrev pub above : ℕ → ℕ → Item Fault ℕ → Item Fault ℕ
 above low unit r = mapped (λ (high : ℕ). low + unit * high) r
 
 -- a last group that is the first or not 0 passes
@@ -73,7 +73,7 @@ shortest b first at used = go (ℕ-discrete b 0) (decLt first at)
     go (yes none) (no early) = rw (none, le-ltb first at (omega arith))
 
 module _ (s : List ℕ) (first at : ℕ) where
-  pub at-end : (more : ℕ) → length s ≤ at → readGroups more s first at ≡ cut (length s)
+  pub at-end : (more : ℕ) → length s ≤ at → readGroups more s first at ≡ stopped cut (length s)
   unfolding readGroups readByte andThen
   at-end zero h = rw (le-ltb at (length s) h)
   at-end (suc more) h = rw (le-ltb at (length s) h)
@@ -83,12 +83,12 @@ module _ (s : List ℕ) (first at : ℕ) where
     unfolding readGroups readByte andThen provided
     at-tenth one = rw (lt-ltb at (length s) inside, eq-eqb (getD s at 0) 1 one)
 
-    pub at-over : (getD s at 0 ≡ 1 → ⊥) → readGroups 0 s first at ≡ bad first
+    pub at-over : (getD s at 0 ≡ 1 → ⊥) → readGroups 0 s first at ≡ stopped bad first
     unfolding readGroups readByte andThen provided
     at-over other = rw (lt-ltb at (length s) inside, ne-eqb (getD s at 0) 1 other)
 
     module _ (more : ℕ) where
-      pub at-idle : getD s at 0 ≡ 0 → first < at → readGroups (suc more) s first at ≡ bad first
+      pub at-idle : getD s at 0 ≡ 0 → first < at → readGroups (suc more) s first at ≡ stopped bad first
       unfolding readGroups readByte andThen provided
       at-idle none late = rw (lt-ltb at (length s) inside, none, lt-ltb first at late)
 
@@ -103,12 +103,12 @@ module _ (s : List ℕ) (first at : ℕ) where
 -- ---- Every reading, by its groups: the bytes end, a group is at fault, a group is the last, or more follow.
 
 module _ (s : List ℕ) (first : ℕ) where
-  pub by-groups : (P : ℕ → ℕ → Item ℕ → Type 0)
-      → ((more at : ℕ) → length s ≤ at → P more at (cut (length s)))
-      → ((more at : ℕ) → at < length s → P more at (bad first))
+  pub by-groups : (P : ℕ → ℕ → Item Fault ℕ → Type 0)
+      → ((more at : ℕ) → length s ≤ at → P more at (stopped cut (length s)))
+      → ((more at : ℕ) → at < length s → P more at (stopped bad first))
       → ((more at : ℕ) → at < length s → getD s at 0 < 128 → (more ≡ 0 → getD s at 0 ≡ 1) → (first < at → 0 < getD s at 0)
       → P more at (got (getD s at 0) (at + 1)))
-      → ((more at : ℕ) (r : Item ℕ) → at < length s → 128 ≤ getD s at 0 → P more (at + 1) r → P (suc more) at (above (getD s at 0 - 128) 128 r))
+      → ((more at : ℕ) (r : Item Fault ℕ) → at < length s → 128 ≤ getD s at 0 → P more (at + 1) r → P (suc more) at (above (getD s at 0 - 128) 128 r))
       → (more at : ℕ) → P more at (readGroups more s first at)
   by-groups P ends faulty last next zero at = inside (decLt at (length s))
     where
@@ -141,24 +141,24 @@ module _ (s : List ℕ) (first : ℕ) where
 
 module _ (s : List ℕ) (first : ℕ) where
   -- a cut is at the end of the bytes, which is near; a fault is at the number's first byte; a number has a byte, and ends inside
-  abbrev Placed : ℕ → ℕ → Item ℕ → Type 0
+  abbrev Placed : ℕ → ℕ → Item Fault ℕ → Type 0
   Placed more at (got v next) = (at < next) × (next ≤ length s)
-  Placed more at (cut place) = (place ≡ length s) × (place ≤ at + more)
-  Placed more at (bad place) = place ≡ first
+  Placed more at (stopped cut place) = (place ≡ length s) × (place ≤ at + more)
+  Placed more at (stopped bad place) = place ≡ first
 
   placed : (more at : ℕ) → Placed more at (readGroups more s first at)
   unfolding mapped
   placed more at = by-groups s first Placed (λ more at h. (refl, omega arith)) (λ more at h. refl) (λ more at h _ _ _. (omega arith, omega arith)) next more at
     where
-      next : (more at : ℕ) (r : Item ℕ) → at < length s → 128 ≤ getD s at 0 → Placed more (at + 1) r → Placed (suc more) at (above (getD s at 0 - 128) 128 r)
+      next : (more at : ℕ) (r : Item Fault ℕ) → at < length s → 128 ≤ getD s at 0 → Placed more (at + 1) r → Placed (suc more) at (above (getD s at 0 - 128) 128 r)
       next more at (got v end) h high p = (omega (arith, p .0), p .1)
-      next more at (cut place) h high p = (p .0, omega (arith, p .1))
-      next more at (bad place) h high p = p
+      next more at (stopped cut place) h high p = (p .0, omega (arith, p .1))
+      next more at (stopped bad place) h high p = p
 
-  pub groups-cut : (more at p : ℕ) → readGroups more s first at ≡ cut p → (p ≡ length s) × (p ≤ at + more)
+  pub groups-cut : (more at p : ℕ) → readGroups more s first at ≡ stopped cut p → (p ≡ length s) × (p ≤ at + more)
   groups-cut more at p e = rw e at (placed more at)
 
-  pub groups-bad : (more at p : ℕ) → readGroups more s first at ≡ bad p → p ≡ first
+  pub groups-bad : (more at p : ℕ) → readGroups more s first at ≡ stopped bad p → p ≡ first
   groups-bad more at p e = rw e at (placed more at)
 
   pub groups-inside : (more at v next : ℕ) → readGroups more s first at ≡ got v next → (at < next) × (next ≤ length s)
@@ -210,10 +210,9 @@ pub record Taken (more : ℕ) (s : List ℕ) (first at v next : ℕ) : Type 0 wh
   pub used : first < at → 0 < v
 
 module _ (s : List ℕ) (first : ℕ) (byte : (i : ℕ) → getD s i 0 < 256) where
-  abbrev Took : ℕ → ℕ → Item ℕ → Type 0
+  abbrev Took : ℕ → ℕ → Item Fault ℕ → Type 0
   Took more at (got v next) = first ≤ at → Taken more s first at v next
-  Took more at (cut place) = Unit {0}
-  Took more at (bad place) = Unit {0}
+  Took more at (stopped what place) = Unit {0}
 
   last : (more at : ℕ) → at < length s → getD s at 0 < 128 → (more ≡ 0 → getD s at 0 ≡ 1) → (first < at → 0 < getD s at 0) → Took more at (got (getD s at 0) (at + 1))
   last more at h low one used from =
@@ -229,10 +228,9 @@ module _ (s : List ℕ) (first : ℕ) (byte : (i : ℕ) → getD s i 0 < 256) wh
       small zero one = omega (arith, one refl)
       small (suc m) one = omega (arith, pow-le-pow-right {n = 128} (omega arith) {j = m} zero-le)
 
-  next : (more at : ℕ) (r : Item ℕ) → at < length s → 128 ≤ getD s at 0 → Took more (at + 1) r → Took (suc more) at (above (getD s at 0 - 128) 128 r)
+  next : (more at : ℕ) (r : Item Fault ℕ) → at < length s → 128 ≤ getD s at 0 → Took more (at + 1) r → Took (suc more) at (above (getD s at 0 - 128) 128 r)
   unfolding mapped
-  next more at (cut place) h high t = tt
-  next more at (bad place) h high t = tt
+  next more at (stopped what place) h high t = tt
   next more at (got x end) h high t = λ from.
       let w = t (omega arith) in
       let some = w .used (omega arith) in

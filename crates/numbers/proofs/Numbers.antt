@@ -6,7 +6,7 @@ use native.Mathlib.Omega.{arith}
 use native.Mathlib.Decide.{decLt}
 use lib.ListN.{length, getD, take, drop}
 use lib.Seq.{drop-at, length-take-le, sets, sets-eq}
-use Rattle.numbers.specs.Item.{Item.got, Item.cut, Item.bad, mapped}
+use Rattle.numbers.specs.Item.{Item.got, Item.stopped, mapped, Fault.cut, Fault.bad}
 use Rattle.numbers.specs.Number.{mostGroups, numberBytes, groupsOf, readNumber}
 use Rattle.numbers.proofs.Groups.{groups-last, groups-next, groups-some, groups-length, groups-bytes, above, at-last, at-next, groups-cut, groups-bad, groups-inside, read-written, taken}
 
@@ -84,10 +84,10 @@ unfolding readNumber
 number-inside s at v next e = groups-inside s at 9 at v next e
 
 -- a cut is at the end of the bytes, at most nine bytes on
-pub number-cut : (s : List ℕ) (at p : ℕ) → readNumber s at ≡ cut p → (p ≡ length s) × (p ≤ at + 9)
+pub number-cut : (s : List ℕ) (at p : ℕ) → readNumber s at ≡ stopped cut p → (p ≡ length s) × (p ≤ at + 9)
 unfolding readNumber
 number-cut s at p e = groups-cut s at 9 at p e
 
-pub number-bad : (s : List ℕ) (at p : ℕ) → readNumber s at ≡ bad p → p ≡ at
+pub number-bad : (s : List ℕ) (at p : ℕ) → readNumber s at ≡ stopped bad p → p ≡ at
 unfolding readNumber
 number-bad s at p e = groups-bad s at 9 at p e

@@ -5,21 +5,19 @@ use Prim.Native.Nat.{ℕ, suc, zero-le, _+_, _-_, _*_, _^_, _≤_, _<_}
 use native.Mathlib.Omega.{arith}
 use native.Mathlib.Nat.{mul-le-mul-left, pow-le-pow-right, pow-succ'}
 use lib.ListN.{length, getD}
-use Rattle.numbers.specs.Item.{Item, Item.got, Item.cut, Item.bad, mapped}
+use Rattle.numbers.specs.Item.{Item, Item.got, Item.stopped, mapped, Fault, Fault.cut, Fault.bad}
 use Rattle.numbers.specs.Number.{readGroups, readNumber}
 use Rattle.numbers.proofs.Groups.{above, at-end, at-tenth, at-over, at-idle, at-last, at-next}
 
-above-none : (r : Item ℕ) → above 0 1 r ≡ r
+above-none : (r : Item Fault ℕ) → above 0 1 r ≡ r
 unfolding mapped
 above-none (got x next) = ap (λ (v : ℕ). got v next) (omega arith)
-above-none (cut place) = refl
-above-none (bad place) = refl
+above-none (stopped what place) = refl
 
-above-above : (a u b w : ℕ) (r : Item ℕ) → above a u (above b w r) ≡ above (a + u * b) (u * w) r
+above-above : (a u b w : ℕ) (r : Item Fault ℕ) → above a u (above b w r) ≡ above (a + u * b) (u * w) r
 unfolding mapped
 above-above a u b w (got x next) = ap (λ (v : ℕ). got v next) (omega arith)
-above-above a u b w (cut place) = refl
-above-above a u b w (bad place) = refl
+above-above a u b w (stopped what place) = refl
 
 pub record Reads (s : List ℕ) (at place more low unit : ℕ) : Type 0 where
   pub left : readNumber s at ≡ above low unit (readGroups more s at place)
@@ -35,14 +33,14 @@ shift more unit = rw (pow-succ' 128 more) (omega arith)
 
 module _ {s : List ℕ} {at place more low unit : ℕ} (r : Reads s at place more low unit) where
   -- what is answered for the groups that are left
-  answer : {m : ℕ} {x : Item ℕ} → more ≡ m → readGroups m s at place ≡ x → above low unit x ≡ readNumber s at
+  answer : {m : ℕ} {x : Item Fault ℕ} → more ≡ m → readGroups m s at place ≡ x → above low unit x ≡ readNumber s at
   answer e f = sym (r .left ∙ ap (λ (m : ℕ). above low unit (readGroups m s at place)) e ∙ ap (above low unit) f)
 
   answer-got : {m x next : ℕ} (value : ℕ) → value ≡ low + unit * x → more ≡ m → readGroups m s at place ≡ got x next → got value next ≡ readNumber s at
   unfolding mapped
   answer-got {next = next} value v e f = ap (λ (v : ℕ). got v next) v ∙ answer e f
 
-  pub ended : length s ≤ place → cut (length s) ≡ readNumber s at
+  pub ended : length s ≤ place → stopped cut (length s) ≡ readNumber s at
   unfolding mapped
   ended end = answer refl (at-end s at place more end)
 
@@ -54,7 +52,7 @@ module _ {s : List ℕ} {at place more low unit : ℕ} (r : Reads s at place mor
     pub tenth-taken : place < length s → getD s place 0 ≡ 1 → got (low + unit) (place + 1) ≡ readNumber s at
     tenth-taken inside one = answer-got (low + unit) (rw one (omega arith)) tenth (at-tenth s at place inside one)
 
-    pub tenth-bad : place < length s → (getD s place 0 ≡ 1 → ⊥) → bad at ≡ readNumber s at
+    pub tenth-bad : place < length s → (getD s place 0 ≡ 1 → ⊥) → stopped bad at ≡ readNumber s at
     unfolding mapped
     tenth-bad inside other = answer tenth (at-over s at place inside other)
 
@@ -79,7 +77,7 @@ module _ {s : List ℕ} {at place more low unit : ℕ} (r : Reads s at place mor
     pub group-fits : (b : ℕ) → b < 128 → unit * b < 2 ^ 64
     group-fits b h = omega (arith, sum-fits b h)
 
-    pub idle-bad : place < length s → getD s place 0 ≡ 0 → at < place → bad at ≡ readNumber s at
+    pub idle-bad : place < length s → getD s place 0 ≡ 0 → at < place → stopped bad at ≡ readNumber s at
     unfolding mapped
     idle-bad inside none late = answer earlier (at-idle s at place inside (more - 1) none late)
 

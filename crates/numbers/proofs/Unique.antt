@@ -4,7 +4,7 @@ use Prim.Native.Nat.{ℕ}
 use denote.Ref.{now}
 use Rattle.answers.proofs.Outcomes.{same}
 use Rattle.answers.specs.Promised.{One, OneLent}
-use Rattle.numbers.specs.Item.{Item, Item.got, Item.cut, Item.bad}
+use Rattle.numbers.specs.Item.{Item, Item.got, Item.stopped, Fault, Fault.cut, Fault.bad}
 use Rattle.numbers.specs.Inside.Read.{itemOf}
 use Rattle.numbers.specs.declared.Read.{Read}
 use Rattle.numbers.specs.declared.Read.the-variants.{Value, Cut, Bad}
@@ -20,10 +20,10 @@ use Rattle.numbers.proofs.decimal.write_signed.Reads as write-signed
 
 -- ---- Different answers say different things.
 
-answerOf : Item ℕ → Read
+answerOf : Item Fault ℕ → Read
 answerOf (got v next) = Value v next
-answerOf (cut place) = Cut place
-answerOf (bad place) = Bad place
+answerOf (stopped cut place) = Cut place
+answerOf (stopped bad place) = Bad place
 
 answer-of : (r : Read) → answerOf (itemOf r) ≡ r
 unfolding answerOf

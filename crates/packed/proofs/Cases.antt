@@ -13,7 +13,7 @@ use Rattle.algebra.specs.Word.{wordOf, fieldsOf, termsBy, word, exponents, term
 use Rattle.answers.specs.Refusals.{ROOM, SHAPE, SUM}
 use Rattle.answers.specs.Answers.{Told, Told.done, Told.refused, outcome}
 use Rattle.answers.specs.Areas.{written}
-use Rattle.numbers.specs.Item.{Item, Item.got, Item.cut, Item.bad, andThen, provided, mapped}
+use Rattle.numbers.specs.Item.{Item, Item.got, Item.stopped, andThen, provided, mapped, Fault, Fault.cut, Fault.bad}
 use Rattle.numbers.specs.Number.{groupsOf, numberBytes, readByte, readGroups, readNumber}
 use Rattle.numbers.specs.Code.{code, decode}
 use Rattle.packed.specs.Packed.{exponentBytes, termBytes, bytesOfTerms, packed}
@@ -27,7 +27,7 @@ use Rattle.packed.specs.Pack.{isGood, goodTerms, pack}
 
 pub data Case : Type 0 where
   packs : Sum → List ℕ → Case
-  faulty : List ℕ → Item Sum → Case
+  faulty : List ℕ → Item Fault Sum → Case
   -- packed bytes, the lengths of the two areas, the answer, and what is written to the areas
   unpacking : List ℕ → ℕ → ℕ → Told → List ℕ → List ℤ → Case
   -- count, words, coefficients, the length of the result area, the answer, and what is written to it
@@ -68,31 +68,31 @@ table =
     ∷ packs (term largest (none 8) ∷ []) (1 ∷ largestBytes ++ none 8)
     ∷ packs (term (pos (2 ^ 62 - 1)) (1 ∷ none 7) ∷ term (negsuc 0) (none 8) ∷ []) (2 ∷ 254 ∷ replicate 7 255 ++ (127 ∷ 1 ∷ none 7) ++ (1 ∷ none 8))
     -- the bytes end before an item, or inside it
-    ∷ faulty [] (cut 0)
-    ∷ faulty (1 ∷ 2 ∷ none 7) (cut 9)
-    ∷ faulty (1 ∷ 130 ∷ []) (cut 2)
+    ∷ faulty [] (stopped cut 0)
+    ∷ faulty (1 ∷ 2 ∷ none 7) (stopped cut 9)
+    ∷ faulty (1 ∷ 130 ∷ []) (stopped cut 2)
     -- a number not in its shortest form, a tenth group of 2 as the last byte there is, and one that says that more follow
-    ∷ faulty (1 ∷ 130 ∷ 0 ∷ none 8) (bad 1)
-    ∷ faulty (1 ∷ replicate 9 128 ++ (2 ∷ [])) (bad 1)
-    ∷ faulty (1 ∷ replicate 9 128 ++ (129 ∷ 0 ∷ [])) (bad 1)
+    ∷ faulty (1 ∷ 130 ∷ 0 ∷ none 8) (stopped bad 1)
+    ∷ faulty (1 ∷ replicate 9 128 ++ (2 ∷ [])) (stopped bad 1)
+    ∷ faulty (1 ∷ replicate 9 128 ++ (129 ∷ 0 ∷ [])) (stopped bad 1)
     -- a count of 129, with nothing after it
-    ∷ faulty (129 ∷ 1 ∷ []) (bad 0)
+    ∷ faulty (129 ∷ 1 ∷ []) (stopped bad 0)
     -- a coefficient 0, and a total above 2^62, judged before the exponents are looked at
-    ∷ faulty (1 ∷ 0 ∷ []) (bad 1)
-    ∷ faulty (2 ∷ largestBytes ++ (1 ∷ none 7) ++ (2 ∷ [])) (bad 19)
+    ∷ faulty (1 ∷ 0 ∷ []) (stopped bad 1)
+    ∷ faulty (2 ∷ largestBytes ++ (1 ∷ none 7) ++ (2 ∷ [])) (stopped bad 19)
     -- the code of -2^63
-    ∷ faulty (1 ∷ replicate 9 255 ++ (1 ∷ none 8)) (bad 1)
+    ∷ faulty (1 ∷ replicate 9 255 ++ (1 ∷ none 8)) (stopped bad 1)
     -- exponents that add up to 61, at the exponent that makes them so; 1 and 2^64 - 1
-    ∷ faulty (1 ∷ 2 ∷ 60 ∷ 1 ∷ []) (bad 3)
-    ∷ faulty (1 ∷ 2 ∷ 1 ∷ replicate 9 255 ++ (1 ∷ none 6)) (bad 3)
+    ∷ faulty (1 ∷ 2 ∷ 60 ∷ 1 ∷ []) (stopped bad 3)
+    ∷ faulty (1 ∷ 2 ∷ 1 ∷ replicate 9 255 ++ (1 ∷ none 6)) (stopped bad 3)
     -- a pattern that stands twice, and one too late; with a last exponent that is missing or too large that is the fault
-    ∷ faulty (2 ∷ 2 ∷ (1 ∷ none 7) ++ (2 ∷ 1 ∷ none 7)) (bad 10)
-    ∷ faulty (2 ∷ 2 ∷ none 8 ++ (2 ∷ 1 ∷ none 7)) (bad 10)
-    ∷ faulty (2 ∷ 2 ∷ none 8 ++ (2 ∷ 1 ∷ none 6)) (cut 18)
-    ∷ faulty (2 ∷ 2 ∷ (1 ∷ none 7) ++ (2 ∷ 1 ∷ none 6)) (cut 18)
-    ∷ faulty (2 ∷ 2 ∷ (1 ∷ none 7) ++ (2 ∷ 1 ∷ none 6) ++ (60 ∷ [])) (bad 18)
+    ∷ faulty (2 ∷ 2 ∷ (1 ∷ none 7) ++ (2 ∷ 1 ∷ none 7)) (stopped bad 10)
+    ∷ faulty (2 ∷ 2 ∷ none 8 ++ (2 ∷ 1 ∷ none 7)) (stopped bad 10)
+    ∷ faulty (2 ∷ 2 ∷ none 8 ++ (2 ∷ 1 ∷ none 6)) (stopped cut 18)
+    ∷ faulty (2 ∷ 2 ∷ (1 ∷ none 7) ++ (2 ∷ 1 ∷ none 6)) (stopped cut 18)
+    ∷ faulty (2 ∷ 2 ∷ (1 ∷ none 7) ++ (2 ∷ 1 ∷ none 6) ++ (60 ∷ [])) (stopped bad 18)
     -- bytes left over
-    ∷ faulty (0 ∷ 0 ∷ []) (bad 1)
+    ∷ faulty (0 ∷ 0 ∷ []) (stopped bad 1)
     -- 3b - 1, in areas of 128 and 129 places, of which the others stay; ROOM comes before SUM; cut and damaged records are both SUM
     ∷ unpacking (2 ∷ 6 ∷ 0 ∷ 1 ∷ none 6 ++ (1 ∷ none 8)) 128 129 (done 2) (2 ^ 48 ∷ 0 ∷ []) (pos 3 ∷ negsuc 0 ∷ [])
     ∷ unpacking (0 ∷ []) 128 128 (done 0) [] []

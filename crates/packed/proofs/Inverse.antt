@@ -21,7 +21,7 @@ use Rattle.answers.specs.Answers.{Told.done, Outcome, outcome, check}
 use Rattle.answers.specs.Areas.{written}
 use Rattle.answers.proofs.Judging.{refused-done, done-same}
 use Rattle.answers.proofs.Writes.{written-front}
-use Rattle.numbers.specs.Item.{Item, Item.got, Item.cut, Item.bad}
+use Rattle.numbers.specs.Item.{Item, Item.got, Item.stopped, Fault, Fault.cut, Fault.bad}
 use Rattle.packed.specs.Packed.{packed, mostBytes}
 use Rattle.algebra.specs.Accepted.{Accepted}
 use Rattle.packed.specs.ReadSum.{readWhole}
@@ -60,7 +60,7 @@ unpack-accepted {bytes} {ws} {cs} {count} {ws'} {cs'} byte e =
     let coefficients-room = leb→le mostTerms (length cs) (and-r words-fit coefficients-fit (room .0)) in
     go words-room coefficients-room (readWhole variables bytes) refl (room .1)
   where
-    go : mostTerms ≤ length ws → mostTerms ≤ length cs → (r : Item Sum) → readWhole variables bytes ≡ r
+    go : mostTerms ≤ length ws → mostTerms ≤ length cs → (r : Item Fault Sum) → readWhole variables bytes ≡ r
         → heldInto (judged SUM r) ws cs
         ≡ outcome (done count) (ws', cs')
         → Unpacks bytes ws cs count ws' cs'
@@ -77,8 +77,7 @@ unpack-accepted {bytes} {ws} {cs} {count} {ws'} {cs'} byte e =
           words-room = words-room;
           coefficients-room = coefficients-room;
         }
-    go words-room coefficients-room (cut place) read e = absurd (refused-done (ap (λ o. o .answer) e))
-    go words-room coefficients-room (bad place) read e = absurd (refused-done (ap (λ o. o .answer) e))
+    go words-room coefficients-room (stopped what place) read e = absurd (refused-done (ap (λ o. o .answer) e))
 
 -- ---- `pack` is done exactly with the terms of an accepted sum.
 

@@ -12,11 +12,11 @@ use lib.ListN.{length, getD}
 use Rattle.algebra.specs.Limits.{variables, largestDegree, mostTerms}
 use Rattle.algebra.specs.Sum.{term, Sum, weight}
 use Rattle.answers.proofs.Judging.{done-refused}
-use Rattle.numbers.specs.Item.{Item, Item.got, Item.cut, Item.bad}
+use Rattle.numbers.specs.Item.{Item, Item.got, Item.stopped, Fault, Fault.cut, Fault.bad}
 use Rattle.numbers.proofs.Items.{placeOf}
 use Rattle.numbers.specs.Number.{mostGroups, numberBytes, readNumber}
 use Rattle.numbers.specs.Code.{decode}
-use Rattle.numbers.proofs.Items.{place-then, place-mapped, place-provided, CutAt, cut-then, cut-mapped, cut-provided, cut-none}
+use Rattle.numbers.proofs.Items.{end-place, place-then, place-mapped, place-provided, CutAt, fault-then, fault-mapped, fault-provided, fault-none, bad-cut}
 use Rattle.numbers.proofs.Numbers.{number-written, number-cut, number-bad, number-length, number-one, number-two}
 use Rattle.answers.specs.Refusals.{ROOM, SUM}
 use Rattle.answers.specs.Answers.{Told.done, Told.refused, outcome, check}
@@ -28,17 +28,14 @@ use Rattle.packed.specs.ReadSum.{readCoefficient, readExponents, readTer
 use Rattle.packed.proofs.Sizes.{term-length}
 use Rattle.packed.proofs.Trip.{term-written}
 
-pub end-place : {A : Type 0} {r : Item A} {a : A} {end most : ℕ} → placeOf r ≤ most → r ≡ got a end → end ≤ most
-end-place h e = rw e at h
-
 module _ (s : List ℕ) (byte : (i : ℕ) → getD s i 0 < 256) where
   pub number-place : (at : ℕ) → placeOf (readNumber s at) ≤ at + mostGroups
   number-place at = go (readNumber s at) refl
     where
-      go : (r : Item ℕ) → readNumber s at ≡ r → placeOf r ≤ at + mostGroups
+      go : (r : Item Fault ℕ) → readNumber s at ≡ r → placeOf r ≤ at + mostGroups
       go (got v next) e = omega (arith, number-written s at v next byte e .ends, number-length v)
-      go (cut place) e = omega (arith, number-cut s at place e .1)
-      go (bad place) e = omega (arith, number-bad s at place e)
+      go (stopped cut place) e = omega (arith, number-cut s at place e .1)
+      go (stopped bad place) e = omega (arith, number-bad s at place e)
 
   -- the place after a number is known by its size
   number-next : (at v next : ℕ) → readNumber s at ≡ got v next → next ≡ at + length (numberBytes v)
@@ -49,7 +46,7 @@ module _ (s : List ℕ) (byte : (i : ℕ) → getD s i 0 < 256) where
   exponents-place zero d at = omega arith
   exponents-place (suc n) d at =
       place-then (at + suc n + mostGroups) (readNumber s at) _ (omega (arith, number-place at)) (λ e next r.
-      place-provided (at + suc n + mostGroups) (leb (d + e) largestDegree) at _ (omega arith) (λ low.
+      place-provided bad (at + suc n + mostGroups) (leb (d + e) largestDegree) at _ (omega arith) (λ low.
       let small : e < 128 = omega (arith, leb→le (d + e) largestDegree low) in
       let one : next ≡ at + 1 = number-next at e next r ∙ rw (number-one e small) in
       let i : placeOf (readExponents n (d + e) s next) ≤ at + suc n + mostGroups = omega (arith, one, exponents-place n (d + e) next) in
@@ -59,7 +56,7 @@ module _ (s : List ℕ) (byte : (i : ℕ) → getD s i 0 < 256) where
   unfolding readCoefficient
   coefficient-place before at =
       place-then (at + mostGroups) (readNumber s at) _ (number-place at) (λ c next r.
-      place-provided (at + mostGroups) _ at _ (omega arith) (λ _. end-place (number-place at) r))
+      place-provided bad (at + mostGroups) _ at _ (omega arith) (λ _. end-place (number-place at) r))
 
   term-place : (n : ℕ) (before : Sum) (at : ℕ) → placeOf (readTerm n before s at) ≤ at + mostTermBytes n + mostGroups
   unfolding readTerm
@@ -67,7 +64,7 @@ module _ (s : List ℕ) (byte : (i : ℕ) → getD s i 0 < 256) where
       place-then (at + mostTermBytes n + mostGroups) (readCoefficient (weight before) s at) _ (omega (arith, coefficient-place (weight before) at)) (λ c next r.
       let i : placeOf (readExponents n 0 s next) ≤ at + mostTermBytes n + mostGroups = omega (arith, end-place (coefficient-place (weight before) at) r, exponents-place n 0 next) in
       place-then (at + mostTermBytes n + mostGroups) (readExponents n 0 s next) _ i (λ p end q.
-      place-provided (at + mostTermBytes n + mostGroups) _ at _ (omega arith) (λ _. end-place i q)))
+      place-provided bad (at + mostTermBytes n + mostGroups) _ at _ (omega arith) (λ _. end-place i q)))
 
   terms-place : (n left : ℕ) (before : Sum) (at : ℕ) → placeOf (readTerms n left before s at) ≤ at + mostTermBytes n * left + mostGroups
   unfolding readTerms
@@ -85,7 +82,7 @@ module _ (s : List ℕ) (byte : (i : ℕ) → getD s i 0 < 256) where
   unfolding readSum
   sum-place n at =
       place-then (at + mostBytes n + mostGroups) (readNumber s at) _ (omega (arith, number-place at)) (λ count next r.
-      place-provided (at + mostBytes n + mostGroups) (leb count mostTerms) at _ (omega arith) (λ few.
+      place-provided bad (at + mostBytes n + mostGroups) (leb count mostTerms) at _ (omega arith) (λ few.
       let h = leb→le count mostTerms few in
       omega (arith, number-next at count next r, number-two count (omega arith), terms-place n count [] next, mul-le-mul-left (mostTermBytes n) h)))
 
@@ -94,7 +91,7 @@ module _ (s : List ℕ) (byte : (i : ℕ) → getD s i 0 < 256) where
   whole-place n =
       let h : placeOf (readSum n s 0) ≤ mostBytes n + mostGroups = omega (arith, sum-place n 0) in
       place-then (mostBytes n + mostGroups) (readSum n s 0) _ h (λ sum end r.
-      place-provided (mostBytes n + mostGroups) (leb (length s) end) end _ (end-place h r) (λ _. end-place h r))
+      place-provided bad (mostBytes n + mostGroups) (leb (length s) end) end _ (end-place h r) (λ _. end-place h r))
 
   -- the place of every answer fits in two bytes, as the host's number needs it
   pub place-small : placeOf (readWhole variables s) < 65536
@@ -107,31 +104,31 @@ module _ (s : List ℕ) where
 
   exponents-end : (n d at : ℕ) → CutAt (length s) (readExponents n d s at)
   unfolding readExponents
-  exponents-end zero d at = cut-none (length s) [] at
+  exponents-end zero d at = fault-none (length s) [] at
   exponents-end (suc n) d at =
-      cut-then (length s) (readNumber s at) _ (number-end at) (λ e next.
-      cut-provided (length s) (leb (d + e) largestDegree) at _ (cut-mapped (length s) _ (readExponents n (d + e) s next) (exponents-end n (d + e) next)))
+      fault-then (length s) (readNumber s at) _ (number-end at) (λ e next.
+      fault-provided (length s) bad-cut (leb (d + e) largestDegree) at _ (fault-mapped (length s) _ (readExponents n (d + e) s next) (exponents-end n (d + e) next)))
 
   terms-end : (n left : ℕ) (before : Sum) (at : ℕ) → CutAt (length s) (readTerms n left before s at)
   unfolding readTerms readTerm readCoefficient
-  terms-end n zero before at = cut-none (length s) [] at
+  terms-end n zero before at = fault-none (length s) [] at
   terms-end n (suc left) before at =
-      cut-then (length s) (readTerm n before s at) _ term-end (λ t next. cut-mapped (length s) _ (readTerms n left (t ∷ before) s next) (terms-end n left (t ∷ before) next))
+      fault-then (length s) (readTerm n before s at) _ term-end (λ t next. fault-mapped (length s) _ (readTerms n left (t ∷ before) s next) (terms-end n left (t ∷ before) next))
     where
       term-end : CutAt (length s) (readTerm n before s at)
       term-end =
-          cut-then (length s) (readCoefficient (weight before) s at) _
-          (cut-then (length s) (readNumber s at) _ (number-end at) (λ c next. cut-provided (length s) _ at _ (cut-none (length s) (decode c) next)))
-          (λ c next. cut-then (length s) (readExponents n 0 s next) _ (exponents-end n 0 next) (λ p end. cut-provided (length s) _ at _ (cut-none (length s) (term c p) end)))
+          fault-then (length s) (readCoefficient (weight before) s at) _
+          (fault-then (length s) (readNumber s at) _ (number-end at) (λ c next. fault-provided (length s) bad-cut _ at _ (fault-none (length s) (decode c) next)))
+          (λ c next. fault-then (length s) (readExponents n 0 s next) _ (exponents-end n 0 next) (λ p end. fault-provided (length s) bad-cut _ at _ (fault-none (length s) (term c p) end)))
 
-  pub sum-cut : (n at p : ℕ) → readSum n s at ≡ cut p → p ≡ length s
+  pub sum-cut : (n at p : ℕ) → readSum n s at ≡ stopped cut p → p ≡ length s
   unfolding readSum
   sum-cut n at =
-      cut-then (length s) (readNumber s at) _ (number-end at) (λ count next. cut-provided (length s) (leb count mostTerms) at _ (terms-end n count [] next))
+      fault-then (length s) (readNumber s at) _ (number-end at) (λ count next. fault-provided (length s) bad-cut (leb count mostTerms) at _ (terms-end n count [] next))
 
-  pub whole-cut : (n p : ℕ) → readWhole n s ≡ cut p → p ≡ length s
+  pub whole-cut : (n p : ℕ) → readWhole n s ≡ stopped cut p → p ≡ length s
   unfolding readWhole
-  whole-cut n = cut-then (length s) (readSum n s 0) _ (sum-cut n 0) (λ sum end. cut-provided (length s) (leb (length s) end) end _ (cut-none (length s) sum end))
+  whole-cut n = fault-then (length s) (readSum n s 0) _ (sum-cut n 0) (λ sum end. fault-provided (length s) bad-cut (leb (length s) end) end _ (fault-none (length s) sum end))
 
 -- the place of a refusal
 refused-place : {Areas : Type 0} {r q p : ℕ} {x y : Areas} {k : ℕ} → outcome (refused r p) x ≡ outcome (refused q k) y → p ≡ k
@@ -144,12 +141,12 @@ unfolding unpack heldInto
 unpack-place bytes ws cs {r} {place} {areas} byte e =
     room (leb mostTerms (length ws) && leb mostTerms (length cs)) e
   where
-    read : (item : Item Sum) → placeOf item < 65536
+    read : (item : Item Fault Sum) → placeOf item < 65536
         → heldInto (judged SUM item) ws cs ≡ outcome (refused r place) areas
         → place < 65536
     read (got s end) h e = absurd (done-refused e)
-    read (cut p) h e = omega (arith, refused-place e)
-    read (bad p) h e = omega (arith, refused-place e)
+    read (stopped cut p) h e = omega (arith, refused-place e)
+    read (stopped bad p) h e = omega (arith, refused-place e)
 
     room : (b : Bool)
         → check {Areas = List ℕ × List ℤ} b ROOM 0 (ws, cs) (heldInto (judged SUM (readWhole variables bytes)) ws cs)

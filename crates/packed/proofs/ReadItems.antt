@@ -15,7 +15,7 @@ use Rattle.algebra.specs.Inside.Filled.{filled}
 use Rattle.algebra.specs.Word.{word, exponents, Valid}
 use Rattle.algebra.proofs.Patterns.Laws.{filled-length, filled-degree, filled-next, alone-length, alone-degree, degree-append}
 use Rattle.algebra.proofs.Patterns.Word.{word-valid, exponents-word}
-use Rattle.numbers.specs.Item.{Item, Item.got, Item.bad, mapped}
+use Rattle.numbers.specs.Item.{Item, Item.got, Item.stopped, mapped, Fault, Fault.bad}
 use Rattle.numbers.specs.Number.{readNumber}
 use Rattle.numbers.specs.Code.{code, decode}
 use Rattle.numbers.proofs.Items.{then-got, mapped-id, mapped-mapped, provided-yes, provided-no, Alike, alike-then, alike-mapped, alike-same}
@@ -36,23 +36,23 @@ pub size-is : (c : ℕ) {z : ℤ} {size : ℕ} → c < 2 ^ 64 → z ≡ decode c
 size-is c fits is e = e ∙ ap natAbs (number-is c fits is)
 
 module _ (weight : ℕ) (s : List ℕ) (at c next : ℕ) (read : readNumber s at ≡ got c next) where
-  refuse : (T (weighs weight (decode c)) → ⊥) → bad at ≡ mapped code (readCoefficient weight s at)
+  refuse : (T (weighs weight (decode c)) → ⊥) → stopped bad at ≡ mapped code (readCoefficient weight s at)
   unfolding readCoefficient mapped
-  refuse h = sym (ap (mapped code) (then-got _ read ∙ provided-no at _ (weighs weight (decode c)) h))
+  refuse h = sym (ap (mapped code) (then-got _ read ∙ provided-no bad at _ (weighs weight (decode c)) h))
 
-  pub coefficient-zero : natAbs (decode c) ≡ 0 → bad at ≡ mapped code (readCoefficient weight s at)
+  pub coefficient-zero : natAbs (decode c) ≡ 0 → stopped bad at ≡ mapped code (readCoefficient weight s at)
   coefficient-zero h = refuse (λ t. no-size (decode c) h (weighs-some weight (decode c) t))
 
-  pub coefficient-heavy : largestWeight < weight + natAbs (decode c) → bad at ≡ mapped code (readCoefficient weight s at)
+  pub coefficient-heavy : largestWeight < weight + natAbs (decode c) → stopped bad at ≡ mapped code (readCoefficient weight s at)
   coefficient-heavy h = refuse (λ t. omega (arith, weighs-light weight (decode c) t))
 
   pub coefficient-taken : (natAbs (decode c) ≡ 0 → ⊥) → weight + natAbs (decode c) ≤ largestWeight → got c next ≡ mapped code (readCoefficient weight s at)
   unfolding readCoefficient mapped
   coefficient-taken some light =
-      sym (ap (mapped code) (then-got _ read ∙ provided-yes at _ (weighs weight (decode c)) (weighs-is weight (decode c) (some-size (decode c) some) light))
+      sym (ap (mapped code) (then-got _ read ∙ provided-yes bad at _ (weighs weight (decode c)) (weighs-is weight (decode c) (some-size (decode c) some) light))
       ∙ ap (λ (k : ℕ). got k next) (code-decode c))
 
-pub coefficient-stopped : (weight : ℕ) (s : List ℕ) (at : ℕ) {x : Item ℕ} → Alike x (readNumber s at) → x ≡ mapped code (readCoefficient weight s at)
+pub coefficient-stopped : (weight : ℕ) (s : List ℕ) (at : ℕ) {x : Item Fault ℕ} → Alike x (readNumber s at) → x ≡ mapped code (readCoefficient weight s at)
 unfolding readCoefficient
 coefficient-stopped weight s at a = alike-same (alike-mapped code (alike-then _ a))
 
@@ -100,15 +100,15 @@ module _ {s : List ℕ} {at count w d place v : ℕ} (r : Reads s at count w d p
       let one : count - v ≡ suc (count - (v + 1)) = omega arith in
       r .left ∙ ap (λ (n : ℕ). mapped (λ q. r .p ++ q) (readExponents n d s place)) one
 
-  pub stops : v < count → {x : Item ℕ} → Alike x (readNumber s place) → x ≡ mapped wordFor (readExponents count 0 s at)
+  pub stops : v < count → {x : Item Fault ℕ} → Alike x (readNumber s place) → x ≡ mapped wordFor (readExponents count 0 s at)
   unfolding readExponents
   stops h a = alike-same (alike-mapped wordFor (alike-mapped _ (alike-then _ a))) ∙ ap (mapped wordFor) (sym (next-left h))
 
   module _ (h : v < count) {e next : ℕ} (read : readNumber s place ≡ got e next) where
-    pub too-high : largestDegree < d + e → bad place ≡ mapped wordFor (readExponents count 0 s at)
+    pub too-high : largestDegree < d + e → stopped bad place ≡ mapped wordFor (readExponents count 0 s at)
     unfolding readExponents mapped
     too-high high =
-        sym (ap (mapped wordFor) (next-left h ∙ ap (mapped (λ q. r .p ++ q)) (then-got _ read ∙ provided-no place _ (leb (d + e) largestDegree) (λ t. omega (arith, leb→le (d + e) largestDegree t)))))
+        sym (ap (mapped wordFor) (next-left h ∙ ap (mapped (λ q. r .p ++ q)) (then-got _ read ∙ provided-no bad place _ (leb (d + e) largestDegree) (λ t. omega (arith, leb→le (d + e) largestDegree t)))))
 
     module _ (fits : d + e ≤ largestDegree) where
       inside-all : v < variables
@@ -136,7 +136,7 @@ module _ {s : List ℕ} {at count w d place v : ℕ} (r : Reads s at count w d p
         p = r .p ++ (e ∷ []);
         left =
             next-left h
-            ∙ ap (mapped (λ q. r .p ++ q)) (then-got _ read ∙ provided-yes place _ (leb (d + e) largestDegree) (le→leb (d + e) largestDegree fits))
+            ∙ ap (mapped (λ q. r .p ++ q)) (then-got _ read ∙ provided-yes bad place _ (leb (d + e) largestDegree) (le→leb (d + e) largestDegree fits))
             ∙ mapped-mapped (λ q. e ∷ q) (λ q. r .p ++ q) (readExponents (count - (v + 1)) (d + e) s next)
             ∙ (λ i. mapped (λ q. sym (append-assoc (r .p) (e ∷ []) q) i) (readExponents (count - (v + 1)) (d + e) s next));
         many = omega (arith, length-append (r .p) (e ∷ []), r .many);

@@ -13,7 +13,7 @@ use Rattle.algebra.specs.Sum.{term, Sum}
 use Rattle.algebra.specs.Word.{exponents}
 use Rattle.answers.specs.Refusals.{ROOM, SHAPE, SUM}
 use Rattle.answers.specs.Answers.{Told, Told.done, Told.refused, Outcome, outcome}
-use Rattle.numbers.specs.Item.{Item, Item.got, Item.cut, Item.bad}
+use Rattle.numbers.specs.Item.{Item, Item.got, Item.stopped, Fault, Fault.cut, Fault.bad}
 use Rattle.packed.specs.Packed.{mostBytes}
 use Rattle.packed.specs.ReadSum.{readWhole}
 use Rattle.packed.specs.Whole.{judged}
@@ -50,13 +50,13 @@ module _ (bytes ws : List ℕ) (cs : List ℤ) where
       by : {refusal p : ℕ} → UnpackRefuses bytes ws cs refusal p → UnpackExplains (unpack bytes ws cs)
       by d = subst UnpackExplains (sym (refuses-unpack d)) (d, refl)
 
-      go : Dec (length ws < mostTerms) → Dec (length cs < mostTerms) → (item : Item Sum) → readWhole variables bytes ≡ item → UnpackExplains (unpack bytes ws cs)
+      go : Dec (length ws < mostTerms) → Dec (length cs < mostTerms) → (item : Item Fault Sum) → readWhole variables bytes ≡ item → UnpackExplains (unpack bytes ws cs)
       go (yes short) d item e = by (few-words short)
       go (no long) (yes short) item e = by (few-coefficients (omega (arith, long)) short)
       go (no long) (no also-long) (got s end) e =
           subst UnpackExplains (sym (has-room bytes ws cs (omega (arith, long)) (omega (arith, also-long)) ∙ ap (λ r. heldInto (judged SUM r) ws cs) e)) tt
-      go (no long) (no also-long) (cut place) e = by (at-sum (omega (arith, long)) (omega (arith, also-long)) (is-cut e))
-      go (no long) (no also-long) (bad place) e = by (at-sum (omega (arith, long)) (omega (arith, also-long)) (is-bad e))
+      go (no long) (no also-long) (stopped cut place) e = by (at-sum (omega (arith, long)) (omega (arith, also-long)) (is-cut e))
+      go (no long) (no also-long) (stopped bad place) e = by (at-sum (omega (arith, long)) (omega (arith, also-long)) (is-bad e))
 
   pub unpack-refuses : {refusal p : ℕ} {areas : List ℕ × List ℤ} → unpack bytes ws cs ≡ outcome (refused refusal p) areas → UnpackRefuses bytes ws cs refusal p × (areas ≡ (ws, cs))
   unpack-refuses e = subst UnpackExplains e unpack-explained

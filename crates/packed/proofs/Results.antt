@@ -25,13 +25,13 @@ use Rattle.answers.specs.declared.Answer.{Answer}
 use Rattle.answers.proofs.Answer.{the-type}
 use Rattle.answers.proofs.Judging.{then-good, then-fails}
 use Rattle.answers.proofs.Writes.{written-front}
-use Rattle.numbers.specs.Item.{Item, Item.got, Item.cut, Item.bad, mapped}
+use Rattle.numbers.specs.Item.{Item, Item.got, Item.stopped, mapped, Fault, Fault.cut, Fault.bad}
 use Rattle.numbers.proofs.Items.{placeOf}
 use Rattle.numbers.specs.Inside.Read.{itemOf}
 use Rattle.numbers.specs.declared.Read.{Read}
 use Rattle.numbers.specs.declared.Read.the-variants.{Value}
 use Rattle.numbers.proofs.Read.{the-type as read-type}
-use Rattle.numbers.proofs.Items.{Alike, Alike.both-cut, Alike.both-bad, alike-then, stopped, answered, number-stopped}
+use Rattle.numbers.proofs.Items.{Alike, Alike.both, alike-then, stop-met, answered, number-stopped}
 use Rattle.packed.specs.Packed.{packed, mostBytes}
 use Rattle.packed.specs.ReadSum.{readWhole}
 use Rattle.packed.specs.Inside.Held.{readInto, readCount, readRest, fault}
@@ -48,7 +48,7 @@ use Rattle.packed.proofs.Unpacking.{is-done, whole-refused, whole-done}
 
 -- ---- The bytes that are given.
 
-pub fault-judged : {A : Type 0} {item : Item A} {place : ℕ} (refusal : ℕ) → AtFault item place → judged refusal item ≡ fails refusal place
+pub fault-judged : {A : Type 0} {item : Item Fault A} {place : ℕ} (refusal : ℕ) → AtFault item place → judged refusal item ≡ fails refusal place
 fault-judged refusal (is-cut e) = ap (judged refusal) e
 fault-judged refusal (is-bad e) = ap (judged refusal) e
 
@@ -68,10 +68,10 @@ pub data Reading (bytes : List ℕ) : Type 0 where
 pub reading : (bytes : List ℕ) → ((i : ℕ) → getD bytes i 0 < 256) → Reading bytes
 reading bytes byte = go (readWhole variables bytes) refl
   where
-    go : (item : Item Sum) → readWhole variables bytes ≡ item → Reading bytes
+    go : (item : Item Fault Sum) → readWhole variables bytes ≡ item → Reading bytes
     go (got s end) e = let w = whole-written bytes byte variables s end e in a-sum s (record { accepted = w .1; bytes-are = w .0 })
-    go (cut place) e = a-fault place (is-cut e)
-    go (bad place) e = a-fault place (is-bad e)
+    go (stopped cut place) e = a-fault place (is-cut e)
+    go (stopped bad place) e = a-fault place (is-bad e)
 
 -- the first places of two areas, to which the words and coefficients of an accepted sum were written, hold the sum
 pub written-terms : {s : Sum} (ws : List ℕ) (cs : List ℤ) {ws' : List ℕ} {cs' : List ℤ} {count : ℕ} → Accepted variables s → ws' ≡ written (wordsOf s) ws → cs' ≡ written (coefficientsOf s) cs
@@ -88,12 +88,12 @@ pub record Handed (bytes : List ℕ) (t : Told) : Type 0 where
 
 -- ---- What `read_count` and `take_whole` answer, one after the other.
 
-handed : {bytes : List ℕ} {x : Item ℕ} {t : Told} → Alike x (readWhole variables bytes) → t ≡ fault SUM x → Handed bytes t
+handed : {bytes : List ℕ} {x : Item Fault ℕ} {t : Told} → Alike x (readWhole variables bytes) → t ≡ fault SUM x → Handed bytes t
 handed {bytes} {x} {t} a says = go (readWhole variables bytes) refl a says
   where
-    go : {x : Item ℕ} (item : Item Sum) → readWhole variables bytes ≡ item → Alike x item → t ≡ fault SUM x → Handed bytes t
-    go (cut place) read both-cut says = record { place = place; says = says; fault = is-cut read }
-    go (bad place) read both-bad says = record { place = place; says = says; fault = is-bad read }
+    go : {x : Item Fault ℕ} (item : Item Fault Sum) → readWhole variables bytes ≡ item → Alike x item → t ≡ fault SUM x → Handed bytes t
+    go (stopped cut place) read both says = record { place = place; says = says; fault = is-cut read }
+    go (stopped bad place) read both says = record { place = place; says = says; fault = is-bad read }
 
 pub count-refused : (bytes : List ℕ) (r : Read) → OneOf (1 ∷ 2 ∷ []) (tagOf read-type r) → itemOf r ≡ readCount bytes 0 → {t : Told} → t ≡ fault SUM (itemOf r) → Handed bytes t
 count-refused bytes r keys e says = handed (subst (Alike (itemOf r)) (sym (whole-split variables bytes)) (alike-then _ (number-stopped r keys (readCount bytes 0) e))) says
@@ -122,15 +122,14 @@ module _ (bytes : List ℕ) {count next : ℕ} (counted : readCount bytes 0 ≡ 
 
 -- ---- What `read_sum` answers: the fault that was met, or the sum that the areas hold.
 
-counted : (item : Item Sum) (ws : List ℕ) (cs : List ℤ) → readInto item ws cs .0 ≡ mapped length item
+counted : (item : Item Fault Sum) (ws : List ℕ) (cs : List ℤ) → readInto item ws cs .0 ≡ mapped length item
 unfolding readInto mapped
 counted (got s next) ws cs = refl
-counted (cut place) ws cs = refl
-counted (bad place) ws cs = refl
+counted (stopped what place) ws cs = refl
 
-module _ (r : Read) (item : Item Sum) (ws : List ℕ) (cs : List ℤ) {ws' : List ℕ} {cs' : List ℤ} (e : (itemOf r, ws', cs') ≡ readInto item ws cs) where
+module _ (r : Read) (item : Item Fault Sum) (ws : List ℕ) (cs : List ℤ) {ws' : List ℕ} {cs' : List ℤ} (e : (itemOf r, ws', cs') ≡ readInto item ws cs) where
   pub into-stopped : OneOf (1 ∷ 2 ∷ []) (tagOf read-type r) → Alike (itemOf r) item
-  into-stopped keys = stopped r keys length item (ap (λ x. x .0) e ∙ counted item ws cs)
+  into-stopped keys = stop-met r keys length item (ap (λ x. x .0) e ∙ counted item ws cs)
 
   pub into-read : {count end : ℕ} → r ≡ Value count end → ReadAt item ws cs ws' cs' count end
   unfolding readInto

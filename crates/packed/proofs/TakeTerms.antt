@@ -17,9 +17,9 @@ use Rattle.algebra.proofs.Patterns.Laws.{filled-length, filled-degree}
 use Rattle.algebra.proofs.Patterns.Word.{word-valid, exponents-word}
 use Rattle.answers.specs.Areas.{written}
 use Rattle.answers.proofs.Writes.{written-next, written-kept}
-use Rattle.numbers.specs.Item.{Item, Item.got, Item.bad, provided, mapped}
+use Rattle.numbers.specs.Item.{Item, Item.got, Item.stopped, provided, mapped, Fault, Fault.bad}
 use Rattle.numbers.specs.Code.{code, decode}
-use Rattle.numbers.proofs.Items.{then-got, mapped-id, mapped-mapped, through, passed, got-value, From, Alike, Alike.both-cut, Alike.both-bad, alike-then, alike-mapped, alike-same}
+use Rattle.numbers.proofs.Items.{then-got, mapped-id, mapped-mapped, through, passed, got-value, From, Alike, Alike.both, alike-then, alike-mapped, alike-same}
 use Rattle.numbers.proofs.Codes.{decode-code}
 use Rattle.packed.specs.Judge.{follows}
 use Rattle.packed.specs.ReadSum.{readCoefficient, readExponents, readTerm, readTerms}
@@ -56,10 +56,9 @@ onto-written f before t area k e h =
     ∙ ap (λ l. written l area) (sym (map-append f (onto before []) (t ∷ [])) ∙ ap (map f) (sym (onto-rest before (t ∷ []))))
 
 -- what met a fault has read no sum
-no-sum : {A : Type 0} {all : Item Sum} {x : Item ℕ} {y : Item A} → Alike x y → x ≡ mapped length all → {sum : Sum} {end : ℕ} → all ≡ got sum end → ⊥
+no-sum : {A : Type 0} {all : Item Fault Sum} {x : Item Fault ℕ} {y : Item Fault A} → Alike x y → x ≡ mapped length all → {sum : Sum} {end : ℕ} → all ≡ got sum end → ⊥
 unfolding mapped
-no-sum both-cut e is = let z : _≡_ {A = ℕ} 0 1 = cc in omega arith
-no-sum both-bad e is = let z : _≡_ {A = ℕ} 0 1 = cc in omega arith
+no-sum both e is = let z : _≡_ {A = ℕ} 0 1 = cc in omega arith
 
 -- ---- The loop.
 
@@ -121,11 +120,11 @@ module _ {s : List ℕ} {at n count : ℕ} {words₀ : List ℕ} {coefficients�
       t .left ∙ ap (λ (i : ℕ). mapped (onto (t .before)) (readTerms n i (t .before) s place)) one
 
   -- a fault of the next term is one of the whole
-  term-stops : k < count → {x : Item ℕ} → Alike x (readTerm n (t .before) s place) → x ≡ mapped length (readTerms n count [] s at)
+  term-stops : k < count → {x : Item Fault ℕ} → Alike x (readTerm n (t .before) s place) → x ≡ mapped length (readTerms n count [] s at)
   unfolding readTerms
   term-stops h a = alike-same (alike-mapped length (alike-mapped _ (alike-then _ a))) ∙ ap (mapped length) (sym (next-left h))
 
-  pub first-stops : k < count → {x : Item ℕ} → Alike x (readCoefficient total s place) → x ≡ mapped length (readTerms n count [] s at)
+  pub first-stops : k < count → {x : Item Fault ℕ} → Alike x (readCoefficient total s place) → x ≡ mapped length (readTerms n count [] s at)
   unfolding readTerm
   first-stops h {x} a = term-stops h (alike-then _ (subst (λ (n : ℕ). Alike x (readCoefficient n s place)) (t .weighed) a))
 
@@ -133,7 +132,7 @@ module _ {s : List ℕ} {at n count : ℕ} {words₀ : List ℕ} {coefficients�
     first-is : readCoefficient (weight (t .before)) s place ≡ got (first .value) next
     first-is = ap (λ (n : ℕ). readCoefficient n s place) (sym (t .weighed)) ∙ first .is
 
-    pub rest-stops : {x : Item ℕ} → Alike x (readExponents n 0 s next) → x ≡ mapped length (readTerms n count [] s at)
+    pub rest-stops : {x : Item Fault ℕ} → Alike x (readExponents n 0 s next) → x ≡ mapped length (readTerms n count [] s at)
     unfolding readTerm
     rest-stops {x} a = term-stops h (subst (Alike x) (sym (then-got _ first-is)) (alike-then _ a))
 
@@ -145,7 +144,7 @@ module _ {s : List ℕ} {at n count : ℕ} {words₀ : List ℕ} {coefficients�
     unfolding readCoefficient
     heavier =
         let number = through _ _ _ _ (first .is) in
-        let judged = passed _ _ _ _ _ (number .second) in
+        let judged = passed _ _ _ _ _ _ (number .second) in
         let same : decode (number .value) ≡ decode c = got-value (judged .1) ∙ sym coefficient-is in
         rw same at (weighs-light total (decode (number .value)) (judged .0))
 
@@ -169,13 +168,13 @@ module _ {s : List ℕ} {at n count : ℕ} {words₀ : List ℕ} {coefficients�
       test-is : follows (t .before) (rest .value) ≡ (eqb k 0 || isBefore (order (exponents last) (exponents w)))
       test-is = t .last-is .is (rest .value) (p-fits .0) ∙ ap (λ p. eqb k 0 || isBefore (order (exponents last) p)) (sym exponents-are)
 
-      term-so-far : readTerm n (t .before) s place ≡ provided (follows (t .before) (rest .value)) place (got (term (first .value) (rest .value)) end)
+      term-so-far : readTerm n (t .before) s place ≡ provided (follows (t .before) (rest .value)) bad place (got (term (first .value) (rest .value)) end)
       unfolding readTerm
       term-so-far = then-got _ first-is ∙ then-got _ (rest .is)
 
-      pub disorder : (eqb k 0 || isBefore (order (exponents last) (exponents w))) ≡ false → bad place ≡ mapped length (readTerms n count [] s at)
+      pub disorder : (eqb k 0 || isBefore (order (exponents last) (exponents w))) ≡ false → stopped bad place ≡ mapped length (readTerms n count [] s at)
       unfolding provided
-      disorder e = term-stops h (subst (Alike (bad place)) (sym (term-so-far ∙ rw (test-is ∙ e))) both-bad)
+      disorder e = term-stops h (subst (Alike (stopped bad place)) (sym (term-so-far ∙ rw (test-is ∙ e))) both)
 
       pub again : {total' : ℕ} {z : ℤ} → (eqb k 0 || isBefore (order (exponents last) (exponents w))) ≡ true → z ≡ decode c → total' ≡ total + natAbs (decode c)
           → Takes s at n count words₀ coefficients₀ (set words k w) (set coefficients k z) end total' w (k + 1)
@@ -224,7 +223,7 @@ module _ {s : List ℕ} {at n count : ℕ} {words₀ : List ℕ} {coefficients�
   )
 
   -- a refusal says nothing more of the arrays: the terms were not all read
-  pub refuses : {A : Type 0} {x : Item ℕ} {y : Item A} → Alike x y → x ≡ mapped length (readTerms n count [] s at)
+  pub refuses : {A : Type 0} {x : Item Fault ℕ} {y : Item Fault A} → Alike x y → x ≡ mapped length (readTerms n count [] s at)
       → (x ≡ mapped length (readTerms n count [] s at)) × (Holds count (readTerms n count [] s at) words₀ coefficients₀ words coefficients)
   refuses a e = (
     e,

@@ -16,12 +16,12 @@ use Rattle.algebra.proofs.Patterns.Laws.{filled-all}
 use Rattle.algebra.proofs.Sums.Every.{Every, Long}
 use Rattle.answers.specs.Areas.{written, cleared}
 use Rattle.answers.proofs.Writes.{written-over}
-use Rattle.numbers.specs.Item.{Item, Item.got, Item.cut, Item.bad, mapped}
+use Rattle.numbers.specs.Item.{Item, Item.got, Item.stopped, mapped, Fault, Fault.cut, Fault.bad}
 use Rattle.numbers.specs.Inside.Read.{itemOf}
 use Rattle.numbers.specs.declared.Read.{Read}
 use Rattle.numbers.specs.declared.Read.the-variants.{Value}
 use Rattle.numbers.proofs.Read.{the-type}
-use Rattle.numbers.proofs.Items.{Alike, Alike.both-cut, Alike.both-bad, stopped, answered}
+use Rattle.numbers.proofs.Items.{Alike, Alike.both, stop-met, answered}
 use Rattle.packed.specs.ReadSum.{readTerms}
 use Rattle.packed.specs.Pack.{goodTerms}
 use Rattle.packed.specs.Inside.Arrays.{wordsFor, Holds, takenInto, Copies, Takes}
@@ -45,14 +45,13 @@ words-for [] long = refl
 words-for (t ∷ s) long = ap₂ (λ (w : ℕ) (ws : List ℕ). w ∷ ws) (ap word (filled-all variables (t .pattern) (long .0))) (words-for s (long .1))
 
 module _ (count : ℕ) {ws₀ : List ℕ} {cs₀ : List ℤ} {ws : List ℕ} {cs : List ℤ} where
-  pub each-stops : {x : Item ℕ} {all : Item Sum} {ws' : List ℕ} {cs' : List ℤ} → Alike x all → Holds count all ws₀ cs₀ ws cs → ws' ≡ cleared 0 count ws → cs' ≡ cleared (pos 0) count cs
+  pub each-stops : {x : Item Fault ℕ} {all : Item Fault Sum} {ws' : List ℕ} {cs' : List ℤ} → Alike x all → Holds count all ws₀ cs₀ ws cs → ws' ≡ cleared 0 count ws → cs' ≡ cleared (pos 0) count cs
       → (x, ws', cs') ≡ takenInto count all ws₀ cs₀
   unfolding takenInto
-  each-stops both-cut held words coefficients = rw (words ∙ cleared-kept count ws₀ (held .words-kept) 0, coefficients ∙ cleared-kept count cs₀ (held .coefficients-kept) (pos 0))
-  each-stops both-bad held words coefficients = rw (words ∙ cleared-kept count ws₀ (held .words-kept) 0, coefficients ∙ cleared-kept count cs₀ (held .coefficients-kept) (pos 0))
+  each-stops both held words coefficients = rw (words ∙ cleared-kept count ws₀ (held .words-kept) 0, coefficients ∙ cleared-kept count cs₀ (held .coefficients-kept) (pos 0))
 
   -- every pattern that was read has all its exponents
-  pub each-taken : {r : Read} {n next : ℕ} {all : Item Sum} → r ≡ Value n next → itemOf r ≡ mapped length all → Holds count all ws₀ cs₀ ws cs
+  pub each-taken : {r : Read} {n next : ℕ} {all : Item Fault Sum} → r ≡ Value n next → itemOf r ≡ mapped length all → Holds count all ws₀ cs₀ ws cs
       → ((s : Sum) (end : ℕ) → all ≡ got s end → Every (Long variables) s) → (itemOf r, ws, cs) ≡ takenInto count all ws₀ cs₀
   unfolding takenInto
   each-taken {r} {n} {next} {all} is e held long =
@@ -65,13 +64,12 @@ module _ (count : ℕ) {ws₀ : List ℕ} {cs₀ : List ℤ} {ws : List ℕ} {cs
 -- ---- `take`.
 
 -- what was copied before is forgotten
-taken-over : (count : ℕ) (all : Item Sum) (ws₀ : List ℕ) (cs₀ : List ℤ) {ws : List ℕ} {cs : List ℤ} → ((s : Sum) (next : ℕ) → all ≡ got s next → length s ≡ count)
+taken-over : (count : ℕ) (all : Item Fault Sum) (ws₀ : List ℕ) (cs₀ : List ℤ) {ws : List ℕ} {cs : List ℤ} → ((s : Sum) (next : ℕ) → all ≡ got s next → length s ≡ count)
     → ws ≡ written (take count ws) ws₀ → cs ≡ written (take count cs) cs₀ → takenInto count all ws cs ≡ takenInto count all ws₀ cs₀
 unfolding takenInto
 taken-over count (got s next) ws₀ cs₀ many words coefficients =
     rw (over-kept count ws₀ words (wordsOf s) (length-map s _ ∙ many s next refl), over-kept count cs₀ coefficients (coefficientsOf s) (length-map s _ ∙ many s next refl))
-taken-over count (cut place) ws₀ cs₀ many words coefficients = rw (cleared-kept count ws₀ words 0, cleared-kept count cs₀ coefficients (pos 0))
-taken-over count (bad place) ws₀ cs₀ many words coefficients = rw (cleared-kept count ws₀ words 0, cleared-kept count cs₀ coefficients (pos 0))
+taken-over count (stopped what place) ws₀ cs₀ many words coefficients = rw (cleared-kept count ws₀ words 0, cleared-kept count cs₀ coefficients (pos 0))
 
 -- what is read item by item is the same, whatever was taken before
 pub taken-again : {count : ℕ} {s : List ℕ} {at end : ℕ} {ws₀ : List ℕ} {cs₀ : List ℤ} {ws : List ℕ} {cs : List ℤ} → Takes count s at end ws₀ cs₀ ws cs
@@ -105,22 +103,21 @@ module _ {count : ℕ} {s : List ℕ} {at end : ℕ} {ws₀ : List ℕ} {cs₀ :
 -- ---- What a caller of `take` knows.
 
 -- the areas hold the sum that was read
-pub record ReadAt (item : Item Sum) (ws : List ℕ) (cs : List ℤ) (ws' : List ℕ) (cs' : List ℤ) (count end : ℕ) : Type 0 where
+pub record ReadAt (item : Item Fault Sum) (ws : List ℕ) (cs : List ℤ) (ws' : List ℕ) (cs' : List ℤ) (count end : ℕ) : Type 0 where
   pub sum : Sum
   pub read : item ≡ got sum end
   pub many : length sum ≡ count
   pub words-are : ws' ≡ written (wordsOf sum) ws
   pub coefficients-are : cs' ≡ written (coefficientsOf sum) cs
 
-counted : (count : ℕ) (item : Item Sum) (ws : List ℕ) (cs : List ℤ) → takenInto count item ws cs .0 ≡ mapped length item
+counted : (count : ℕ) (item : Item Fault Sum) (ws : List ℕ) (cs : List ℤ) → takenInto count item ws cs .0 ≡ mapped length item
 unfolding takenInto mapped
 counted count (got s next) ws cs = refl
-counted count (cut place) ws cs = refl
-counted count (bad place) ws cs = refl
+counted count (stopped what place) ws cs = refl
 
-module _ (r : Read) (count : ℕ) (item : Item Sum) (ws : List ℕ) (cs : List ℤ) {ws' : List ℕ} {cs' : List ℤ} (e : (itemOf r, ws', cs') ≡ takenInto count item ws cs) where
+module _ (r : Read) (count : ℕ) (item : Item Fault Sum) (ws : List ℕ) (cs : List ℤ) {ws' : List ℕ} {cs' : List ℤ} (e : (itemOf r, ws', cs') ≡ takenInto count item ws cs) where
   pub taken-stopped : OneOf (1 ∷ 2 ∷ []) (tagOf the-type r) → Alike (itemOf r) item
-  taken-stopped keys = stopped r keys length item (ap (λ x. x .0) e ∙ counted count item ws cs)
+  taken-stopped keys = stop-met r keys length item (ap (λ x. x .0) e ∙ counted count item ws cs)
 
   pub taken-read : {n end : ℕ} → r ≡ Value n end → ReadAt item ws cs ws' cs' n end
   unfolding takenInto
@@ -130,8 +127,7 @@ module _ (r : Read) (count : ℕ) (item : Item Sum) (ws : List ℕ) (cs : List �
       record { sum = from .value; read = from .is; many = from .shown; words-are = ap (λ x. x .1) held; coefficients-are = ap (λ x. x .2) held }
 
 -- after a fault the arrays are cleared
-pub taken-cleared : {x : Item ℕ} (count : ℕ) {item : Item Sum} (ws : List ℕ) (cs : List ℤ) {ws' : List ℕ} {cs' : List ℤ} → Alike x item → (x, ws', cs') ≡ takenInto count item ws cs
+pub taken-cleared : {x : Item Fault ℕ} (count : ℕ) {item : Item Fault Sum} (ws : List ℕ) (cs : List ℤ) {ws' : List ℕ} {cs' : List ℤ} → Alike x item → (x, ws', cs') ≡ takenInto count item ws cs
     → (ws' ≡ cleared 0 count ws) × (cs' ≡ cleared (pos 0) count cs)
 unfolding takenInto
-taken-cleared count ws cs both-cut e = (ap (λ x. x .1) e, ap (λ x. x .2) e)
-taken-cleared count ws cs both-bad e = (ap (λ x. x .1) e, ap (λ x. x .2) e)
+taken-cleared count ws cs both e = (ap (λ x. x .1) e, ap (λ x. x .2) e)

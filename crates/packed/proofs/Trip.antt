@@ -10,7 +10,7 @@ use lib.Seq.{drop-drop, drop-append-seam}
 use Rattle.algebra.specs.Limits.{largestDegree, mostTerms}
 use Rattle.algebra.specs.Pattern.{Pattern, degree}
 use Rattle.algebra.specs.Sum.{Term, Sum, weight}
-use Rattle.numbers.specs.Item.{Item.got}
+use Rattle.numbers.specs.Item.{Item.got, Fault.bad}
 use Rattle.numbers.specs.Number.{numberBytes, readNumber}
 use Rattle.numbers.specs.Code.{code, decode}
 use Rattle.numbers.proofs.Items.{then-got, mapped-got, provided-yes, through, passed, came-from, got-value, got-next, carry}
@@ -40,7 +40,7 @@ module _ (s : List ℕ) where
       let r = number-read s at x (exponentBytes p ++ rest) (omega arith) e' in
       let i = exponents-read n (d + x) p (at + length (numberBytes x)) rest (omega arith) (omega arith) (after s at (numberBytes x) (exponentBytes p ++ rest) e') in
       then-got _ r
-      ∙ provided-yes at _ (leb (d + x) largestDegree) (le→leb (d + x) largestDegree (omega arith))
+      ∙ provided-yes bad at _ (leb (d + x) largestDegree) (le→leb (d + x) largestDegree (omega arith))
       ∙ mapped-got (λ q. x ∷ q) i
       ∙ ap (got (x ∷ p)) (omega (arith, length-append (numberBytes x) (exponentBytes p)))
 
@@ -54,9 +54,9 @@ module _ (s : List ℕ) where
       let small : code c < 2 ^ 64 = omega (arith, code-size c, weighs-light (weight before) c (f .light)) in
       let r = number-read s at (code c) (exponentBytes p ++ rest) small e' in
       let i = exponents-read n 0 p (at + length (numberBytes (code c))) rest (f .long) (omega (arith, f .low)) (after s at (numberBytes (code c)) (exponentBytes p ++ rest) e') in
-      then-got _ (then-got _ r ∙ rw (decode-code c) (provided-yes at _ (weighs (weight before) c) (f .light)))
+      then-got _ (then-got _ r ∙ rw (decode-code c) (provided-yes bad at _ (weighs (weight before) c) (f .light)))
       ∙ then-got _ i
-      ∙ provided-yes at _ (follows before p) (f .after)
+      ∙ provided-yes bad at _ (follows before p) (f .after)
       ∙ ap (got t) (omega (arith, length-append (numberBytes (code c)) (exponentBytes p)))
 
   pub terms-read : (n : ℕ) (before sum : Sum) (at : ℕ) (rest : List ℕ) → Good n before sum → drop at s ≡ bytesOfTerms sum ++ rest
@@ -79,7 +79,7 @@ module _ (s : List ℕ) where
       let r = number-read s at (length sum) (bytesOfTerms sum ++ rest) (omega (arith, a .few)) e' in
       let i = terms-read n [] sum (at + length (numberBytes (length sum))) rest (accepted-good n sum a) (after s at (numberBytes (length sum)) (bytesOfTerms sum ++ rest) e') in
       then-got _ r
-      ∙ provided-yes at _ (leb (length sum) mostTerms) (le→leb (length sum) mostTerms (a .few))
+      ∙ provided-yes bad at _ (leb (length sum) mostTerms) (le→leb (length sum) mostTerms (a .few))
       ∙ i
       ∙ ap (got sum) (omega (arith, length-append (numberBytes (length sum)) (bytesOfTerms sum)))
 
@@ -89,7 +89,7 @@ unfolding readWhole
 whole-read n sum a =
     then-got _ (sum-read (packed sum) n sum 0 [] a (sym (append-nil (packed sum))))
     ∙ rw (zero-add (length (packed sum)))
-    (provided-yes (length (packed sum)) _ (leb (length (packed sum)) (length (packed sum))) (le→leb (length (packed sum)) (length (packed sum)) (omega arith)))
+    (provided-yes bad (length (packed sum)) _ (leb (length (packed sum)) (length (packed sum))) (le→leb (length (packed sum)) (length (packed sum)) (omega arith)))
 
 -- ---- What is read was packed.
 
@@ -114,7 +114,7 @@ unfolding readExponents degree
 exponents-fit s zero d p at end low e = carry (λ p end. (length p ≡ zero) × (d + degree p ≤ largestDegree)) e (refl, omega arith)
 exponents-fit s (suc n) d p at end low e =
     let first = through _ _ _ _ e in
-    let judged = passed _ _ _ _ _ (first .second) in
+    let judged = passed _ _ _ _ _ _ (first .second) in
     let rest = came-from _ _ _ _ (judged .1) in
     let i = exponents-fit s n (d + first .value) (rest .value) (first .next) end (leb→le (d + first .value) largestDegree (judged .0)) (rest .is) in
     subst (λ p. (length p ≡ suc n) × (d + degree p ≤ largestDegree)) (rest .shown) (ap suc (i .0), omega (arith, i .1))
@@ -128,7 +128,7 @@ module _ (s : List ℕ) (byte : (i : ℕ) → getD s i 0 < 256) where
   exponents-written zero d p at end e = carry (λ p. BytesAt s at (exponentBytes p)) e (stands-none s at)
   exponents-written (suc n) d p at end e =
       let first = through _ _ _ _ e in
-      let rest = came-from _ _ _ _ (passed _ _ _ _ _ (first .second) .1) in
+      let rest = came-from _ _ _ _ (passed _ _ _ _ _ _ (first .second) .1) in
       let i = exponents-written n (d + first .value) (rest .value) (first .next) end (rest .is) in
       subst (λ p. BytesAt s at (exponentBytes p) end) (rest .shown) (stands-both (number-stands (first .first)) i)
 
@@ -141,10 +141,10 @@ module _ (s : List ℕ) (byte : (i : ℕ) → getD s i 0 < 256) where
   term-written n before t at end e =
       let item = through _ _ _ _ e in
       let number = through _ _ _ _ (item .first) in
-      let judged = passed _ _ _ _ _ (number .second) in
+      let judged = passed _ _ _ _ _ _ (number .second) in
       let c = number .value in
       let exps = through _ _ _ _ (item .second) in
-      let last = passed _ _ _ _ _ (exps .second) in
+      let last = passed _ _ _ _ _ _ (exps .second) in
       let x = exponents-fit s n 0 (exps .value) (item .next) (exps .next) (omega arith) (exps .first) in
       let same : decode c ≡ item .value = got-value (judged .1) in
       let bytes : numberBytes (code (item .value)) ≡ numberBytes c = ap numberBytes (ap code (sym same) ∙ code-decode c) in
@@ -179,7 +179,7 @@ module _ (s : List ℕ) (byte : (i : ℕ) → getD s i 0 < 256) where
   unfolding readSum packed
   sum-written n sum at end e =
       let count = through _ _ _ _ e in
-      let judged = passed _ _ _ _ _ (count .second) in
+      let judged = passed _ _ _ _ _ _ (count .second) in
       let t = terms-written n (count .value) [] sum (count .next) end (judged .1) in
       let few : length sum ≤ mostTerms = omega (arith, t .many, leb→le (count .value) mostTerms (judged .0)) in
       record {
@@ -192,7 +192,7 @@ module _ (s : List ℕ) (byte : (i : ℕ) → getD s i 0 < 256) where
   unfolding readWhole
   whole-written n sum end e =
       let read = through _ _ _ _ e in
-      let last = passed _ _ _ _ _ (read .second) in
+      let last = passed _ _ _ _ _ _ (read .second) in
       let w = sum-written n (read .value) 0 (read .next) (read .first) in
       let none : drop (read .next) s ≡ [] = drop-of-length-le s (leb→le (length s) (read .next) (last .0)) in
       carry (λ sum end. (s ≡ packed sum) × (Accepted n sum)) (last .1)

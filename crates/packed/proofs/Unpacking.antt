@@ -21,11 +21,11 @@ use Rattle.answers.specs.declared.Answer.the-variants.{Done, Refused}
 use Rattle.answers.proofs.Answer.{the-type}
 use Rattle.answers.proofs.Judging.{refused-done, done-same}
 use Rattle.answers.proofs.Writes.{written-front, written-over}
-use Rattle.numbers.specs.Item.{Item, Item.got, Item.cut, Item.bad}
+use Rattle.numbers.specs.Item.{Item, Item.got, Item.stopped, Fault, Fault.cut, Fault.bad}
 use Rattle.numbers.specs.Inside.Read.{itemOf}
 use Rattle.numbers.specs.declared.Read.{Read}
 use Rattle.numbers.specs.declared.Read.the-variants.{Value}
-use Rattle.numbers.proofs.Items.{Alike, Alike.both-cut, Alike.both-bad, alike-then, then-got, provided-yes, provided-no}
+use Rattle.numbers.proofs.Items.{Alike, Alike.both, alike-then, then-got, provided-yes, provided-no}
 use Rattle.packed.specs.ReadSum.{readTerms, readSum, readWhole}
 use Rattle.packed.specs.Inside.Held.{readInto, readCount, readRest, fault}
 use Rattle.packed.specs.Inside.Arrays.{Takes}
@@ -38,7 +38,7 @@ use Rattle.packed.proofs.Taking.{ReadAt, taken-read}
 
 -- ---- What two arrays hold goes to two areas.
 
-module _ {item : Item Sum} {ws₀ : List ℕ} {cs₀ : List ℤ} {ws : List ℕ} {cs : List ℤ} {n end : ℕ} (t : ReadAt item ws₀ cs₀ ws cs n end) {count : ℕ} (many : length (t .sum) ≡ count) where
+module _ {item : Item Fault Sum} {ws₀ : List ℕ} {cs₀ : List ℤ} {ws : List ℕ} {cs : List ℤ} {n end : ℕ} (t : ReadAt item ws₀ cs₀ ws cs n end) {count : ℕ} (many : length (t .sum) ≡ count) where
   words-first : (take count ws ≡ wordsOf (t .sum)) × (count ≤ length ws)
   words-first = written-front (wordsOf (t .sum)) ws₀ (t .words-are) (length-map (t .sum) _ ∙ many)
 
@@ -47,10 +47,9 @@ module _ {item : Item Sum} {ws₀ : List ℕ} {cs₀ : List ℤ} {ws : List ℕ}
 
 -- ---- `read_sum`.
 
-pub into-stops : {x : Item ℕ} {all : Item Sum} (ws : List ℕ) (cs : List ℤ) → Alike x all → (x, ws, cs) ≡ readInto all ws cs
+pub into-stops : {x : Item Fault ℕ} {all : Item Fault Sum} (ws : List ℕ) (cs : List ℤ) → Alike x all → (x, ws, cs) ≡ readInto all ws cs
 unfolding readInto
-into-stops ws cs both-cut = refl
-into-stops ws cs both-bad = refl
+into-stops ws cs both = refl
 
 -- the arrays have a place for each term
 pub terms-room : (count : ℕ) (s : List ℕ) (next : ℕ) {ws₀ : List ℕ} {cs₀ : List ℤ} {ws : List ℕ} {cs : List ℤ} {n end : ℕ} → ReadAt (readTerms variables count [] s next) ws₀ cs₀ ws cs n end
@@ -61,11 +60,11 @@ terms-room count s next {ws₀} {cs₀} {ws} {cs} {n} {end} t =
 
 module _ (s : List ℕ) (at : ℕ) where
   -- a fault of the count, or of the terms, is one of the sum
-  pub count-faulty : {x : Item ℕ} → Alike x (readCount s at) → Alike x (readSum variables s at)
+  pub count-faulty : {x : Item Fault ℕ} → Alike x (readCount s at) → Alike x (readSum variables s at)
   count-faulty {x} a = subst (Alike x) (sym (sum-split variables s at)) (alike-then _ a)
 
   module _ {count next : ℕ} (counted : readCount s at ≡ got count next) where
-    pub terms-faulty : {x : Item ℕ} → Alike x (readTerms variables count [] s next) → Alike x (readSum variables s at)
+    pub terms-faulty : {x : Item Fault ℕ} → Alike x (readTerms variables count [] s next) → Alike x (readSum variables s at)
     terms-faulty {x} a = subst (Alike x) (sym (sum-terms variables s at counted)) a
 
     pub into-areas : {ws₀ : List ℕ} {cs₀ : List ℤ} {ws : List ℕ} {cs : List ℤ} {r : Read} {n end : ℕ} → r ≡ Value n end → ReadAt (readTerms variables count [] s next) ws₀ cs₀ ws cs n end
@@ -81,13 +80,12 @@ module _ (s : List ℕ) (at : ℕ) where
 
 -- ---- `take_whole`: what follows the terms is tested too.
 
-pub whole-stops : {x : Item ℕ} {all : Item Sum} (count : ℕ) (ws : List ℕ) (cs : List ℤ) {ws' : List ℕ} {cs' : List ℤ} → Alike x all
+pub whole-stops : {x : Item Fault ℕ} {all : Item Fault Sum} (count : ℕ) (ws : List ℕ) (cs : List ℤ) {ws' : List ℕ} {cs' : List ℤ} → Alike x all
     → (ws' ≡ cleared 0 count ws) × (cs' ≡ cleared (pos 0) count cs) → outcome (fault SUM x) (ws', cs') ≡ wholeInto count (judged SUM all) ws cs
 unfolding wholeInto
-whole-stops count ws cs both-cut clear = rw (clear .0, clear .1)
-whole-stops count ws cs both-bad clear = rw (clear .0, clear .1)
+whole-stops count ws cs both clear = rw (clear .0, clear .1)
 
-pub rest-stops : {x : Item ℕ} (count : ℕ) (s : List ℕ) (at : ℕ) → Alike x (readTerms variables count [] s at) → Alike x (readRest variables count s at)
+pub rest-stops : {x : Item Fault ℕ} (count : ℕ) (s : List ℕ) (at : ℕ) → Alike x (readTerms variables count [] s at) → Alike x (readRest variables count s at)
 unfolding readRest
 rest-stops count s at a = alike-then _ a
 
@@ -99,7 +97,7 @@ module _ (count : ℕ) (s : List ℕ) (at : ℕ) {ws₀ : List ℕ} {cs₀ : Lis
       → outcome (refused SUM end) (ws', cs') ≡ wholeInto count (judged SUM (readRest variables count s at)) ws₀ cs₀
   unfolding readRest wholeInto
   left-over {ws'} {cs'} h words coefficients =
-      let over = provided-no end _ (leb (length s) end) (λ k. omega (arith, leb→le (length s) end k)) in
+      let over = provided-no bad end _ (leb (length s) end) (λ k. omega (arith, leb→le (length s) end k)) in
       let zeros : List ℕ = replicate count 0 in
       let fewer-words : length (wordsOf (t .sum)) ≤ length zeros = omega (arith, length-map (t .sum) (λ (u : Term). word (u .pattern)), all-many, length-replicate {A = ℕ} count 0) in
       let fewer-coefficients : length (coefficientsOf (t .sum)) ≤ length (replicate count (pos 0)) = omega (arith, length-map (t .sum) (λ (u : Term). u .coefficient), all-many, length-replicate count (pos 0)) in
@@ -111,7 +109,7 @@ module _ (count : ℕ) (s : List ℕ) (at : ℕ) {ws₀ : List ℕ} {cs₀ : Lis
   pub whole-read : length s ≤ end → outcome (done count) (ws, cs) ≡ wholeInto count (judged SUM (readRest variables count s at)) ws₀ cs₀
   unfolding readRest wholeInto
   whole-read h =
-      let all = provided-yes end _ (leb (length s) end) (le→leb (length s) end h) in
+      let all = provided-yes bad end _ (leb (length s) end) (le→leb (length s) end h) in
       (λ i. outcome (done (sym all-many i)) (t .words-are i, t .coefficients-are i))
       ∙ ap (λ r. wholeInto count (judged SUM r) ws₀ cs₀) (sym (then-got _ (t .read) ∙ all))
 
@@ -138,34 +136,31 @@ module _ (count : ℕ) (s : List ℕ) (at : ℕ) (ws : List ℕ) (cs : List ℤ)
   unfolding wholeInto
   whole-done r {n} is e = go (readRest variables count s at) refl (sym (ap (λ a. outcome (told a) (ws', cs')) is) ∙ e)
     where
-      go : (item : Item Sum) → readRest variables count s at ≡ item → outcome (done n) (ws', cs') ≡ wholeInto count (judged SUM item) ws cs
+      go : (item : Item Fault Sum) → readRest variables count s at ≡ item → outcome (done n) (ws', cs') ≡ wholeInto count (judged SUM item) ws cs
           → (end : ℕ) × (n ≡ count) × (ReadAt (readRest variables count s at) ws cs ws' cs' count end)
       go (got sum end) read f =
           let many = rest-many variables count sum s at end read in
           let all = done-same f in
           (end, all .0 ∙ many, record { sum = sum; read = read; many = many; words-are = ap (λ x. x .0) (all .1); coefficients-are = ap (λ x. x .1) (all .1) })
-      go (cut place) read f = absurd (refused-done (ap (λ o. o .answer) (sym f)))
-      go (bad place) read f = absurd (refused-done (ap (λ o. o .answer) (sym f)))
+      go (stopped what place) read f = absurd (refused-done (ap (λ o. o .answer) (sym f)))
 
   -- the fault that was met
   pub whole-refused : (r : Answer) → OneOf (1 ∷ []) (tagOf the-type r) → outcome (told r) (ws', cs') ≡ wholeInto count (judged SUM (readRest variables count s at)) ws cs
-      → (x : Item ℕ) × (Alike x (readRest variables count s at)) × (told r ≡ fault SUM x)
+      → (x : Item Fault ℕ) × (Alike x (readRest variables count s at)) × (told r ≡ fault SUM x)
   unfolding wholeInto
   whole-refused (Done n) key e = absurd (omega arith)
   whole-refused (Refused refusal p) key e = go (readRest variables count s at) e
     where
-      go : (item : Item Sum) → outcome (refused (number refusal) p) (ws', cs') ≡ wholeInto count (judged SUM item) ws cs
-          → (x : Item ℕ) × (Alike x item) × (refused (number refusal) p ≡ fault SUM x)
+      go : (item : Item Fault Sum) → outcome (refused (number refusal) p) (ws', cs') ≡ wholeInto count (judged SUM item) ws cs
+          → (x : Item Fault ℕ) × (Alike x item) × (refused (number refusal) p ≡ fault SUM x)
       go (got sum end) f = absurd (refused-done (ap (λ o. o .answer) f))
-      go (cut place) f = (cut place, both-cut, ap (λ o. o .answer) f)
-      go (bad place) f = (bad place, both-bad, ap (λ o. o .answer) f)
+      go (stopped what place) f = (stopped what place, both, ap (λ o. o .answer) f)
 
 -- ---- `unpack_terms`.
 
-both-refuse : {x : Item ℕ} {all : Item Sum} (ws : List ℕ) (cs : List ℤ) → Alike x all → outcome (fault SUM x) (ws, cs) ≡ heldInto (judged SUM all) ws cs
+both-refuse : {x : Item Fault ℕ} {all : Item Fault Sum} (ws : List ℕ) (cs : List ℤ) → Alike x all → outcome (fault SUM x) (ws, cs) ≡ heldInto (judged SUM all) ws cs
 unfolding heldInto
-both-refuse ws cs both-cut = refl
-both-refuse ws cs both-bad = refl
+both-refuse ws cs both = refl
 
 module _ (count : ℕ) (s : List ℕ) (at : ℕ) (ws : List ℕ) (cs : List ℤ) {ws' : List ℕ} {cs' : List ℤ} (r : Answer)
     (e : outcome (told r) (ws', cs') ≡ wholeInto count (judged SUM (readRest variables count s at)) ws cs) (area : List ℕ) (area-cs : List ℤ) where
@@ -202,7 +197,7 @@ module _ (bytes ws : List ℕ) (cs : List ℤ) where
     unfolding unpack
     has-room = rw (le-leb mostTerms (length ws) words-room, le-leb mostTerms (length cs) coefficients-room)
 
-    pub unpack-stops : {x : Item ℕ} → Alike x (readCount bytes 0) → outcome (fault SUM x) (ws, cs) ≡ unpack bytes ws cs
+    pub unpack-stops : {x : Item Fault ℕ} → Alike x (readCount bytes 0) → outcome (fault SUM x) (ws, cs) ≡ unpack bytes ws cs
     unpack-stops {x} a = both-refuse ws cs (subst (Alike x) (sym (whole-split variables bytes)) (alike-then _ a)) ∙ sym has-room
 
     pub unpack-rest : {count next : ℕ} → readCount bytes 0 ≡ got count next → heldInto (judged SUM (readRest variables count bytes next)) ws cs ≡ unpack bytes ws cs

@@ -12,7 +12,7 @@ use Rattle.algebra.specs.Held.{wordsOf, coefficientsOf, firstTerms}
 use Rattle.algebra.specs.Accepted.{Accepted}
 use Rattle.answers.specs.Refusals.{ROOM, SHAPE, SUM}
 use Rattle.answers.specs.Areas.{written, cleared}
-use Rattle.numbers.specs.Item.{Item, Item.cut, Item.bad}
+use Rattle.numbers.specs.Item.{Item, Item.stopped, Fault, Fault.cut, Fault.bad}
 use Rattle.packed.specs.Packed.{packed, mostBytes}
 use Rattle.packed.specs.ReadSum.{readWhole}
 use Rattle.packed.specs.Pack.{isGood}
@@ -26,9 +26,9 @@ pub record PackedSum (bytes : List ℕ) (s : Sum) : Type 0 where
   pub bytes-are : bytes ≡ packed s
 
 -- an item is cut or bad at a place
-pub data AtFault {A : Type 0} (item : Item A) (place : ℕ) : Type 0 where
-  is-cut : item ≡ cut place → AtFault item place
-  is-bad : item ≡ bad place → AtFault item place
+pub data AtFault {A : Type 0} (item : Item Fault A) (place : ℕ) : Type 0 where
+  is-cut : item ≡ stopped cut place → AtFault item place
+  is-bad : item ≡ stopped bad place → AtFault item place
 
 -- two work areas and a result area are long enough
 pub record WorkRoom (patterns : List ℕ) (coefficients : List ℤ) (result : List ℕ) : Type 0 where

@@ -42,8 +42,7 @@ use Rattle.text.specs.Tree.{Tree, Tree.number, Tree.letter, Tree.plus, Tree.tim
 use Rattle.text.specs.Reader.{takes, moreDigits, digitsAt, readAtom, readExponent, readFactor, readMore, isTimes, readTerm, isSign, signed, afterMinus, readSum, inBrackets, readWhole}
 use Rattle.text.specs.Text.{judgeText, textSum}
 use Rattle.change.specs.Slope.{judgeSlope}
-use Rattle.change.specs.Pairs as listing
-use Rattle.change.specs.Pairs.{readPairs, toTheEnd, readList}
+use Rattle.change.specs.Pairs.{readPairs, readList}
 use Rattle.change.specs.Substitute.{judgePair, judgePairs, judgeSubstitute}
 use Rattle.numbers.specs.Bytes.{plainNumber, signedNumber, plainBytes, signedBytes}
 use Rattle.estimates.specs.Readings.{twoByteNumbers, spelled, beforeNegative, judgeReadings}
@@ -53,7 +52,7 @@ use Rattle.promises.specs.Cases.{made, Says, cases, further}
 
 -- every definition that the cases compute with
 computing : ℕ
-unfolding made spelled quoted textSum tableSum judgeText readWhole inBrackets readSum afterMinus signed isSign readTerm isTimes readMore readFactor readExponent readAtom digitsAt moreDigits takes letterOf isDigit nodeCount nodesOf judgeTable isShape judgeNodes judgeNode holding andThen tableOf isIn isKind readNode formalDegree formalWeight nodeSpread nodeSum pattern.times degree same thenBy byPowers order degreeOf weight settle insert gather keep dropZeros collect occurs countNew spread arithmetic.integer arithmetic.variable row pairs _⊕_ sumSpread _⊗_ productSpread arithmetic.power powerSpread algebra-slope.slope rows pairRows algebra-substitute.substitute pairDegree pairWeight largestPower pairSpread total patternValue value patternSize algebra.size unsigned raisedBy margin pow one item.andThen item.provided item.mapped groupsOf numberBytes readByte readGroups readNumber code decode exponentBytes termBytes bytesOfTerms packed weighs follows readCoefficient readExponents packed-sum.readTerm readTerms packed-sum.readSum packed-sum.readWhole judgeSlope listing.andThen listing.provided listing.mapped readPairs toTheEnd readList judgePair judgePairs judgeSubstitute plainNumber signedNumber plainBytes signedBytes twoByteNumbers beforeNegative judgeReadings judgeRange judgeTerms judgeEstimate
+unfolding made spelled quoted textSum tableSum judgeText readWhole inBrackets readSum afterMinus signed isSign readTerm isTimes readMore readFactor readExponent readAtom digitsAt moreDigits takes letterOf isDigit nodeCount nodesOf judgeTable isShape judgeNodes judgeNode holding andThen tableOf isIn isKind readNode formalDegree formalWeight nodeSpread nodeSum pattern.times degree same thenBy byPowers order degreeOf weight settle insert gather keep dropZeros collect occurs countNew spread arithmetic.integer arithmetic.variable row pairs _⊕_ sumSpread _⊗_ productSpread arithmetic.power powerSpread algebra-slope.slope rows pairRows algebra-substitute.substitute pairDegree pairWeight largestPower pairSpread total patternValue value patternSize algebra.size unsigned raisedBy margin pow one item.andThen item.provided item.mapped groupsOf numberBytes readByte readGroups readNumber code decode exponentBytes termBytes bytesOfTerms packed weighs follows readCoefficient readExponents packed-sum.readTerm readTerms packed-sum.readSum packed-sum.readWhole judgeSlope item.renamed readPairs readList judgePair judgePairs judgeSubstitute plainNumber signedNumber plainBytes signedBytes twoByteNumbers beforeNegative judgeReadings judgeRange judgeTerms judgeEstimate
 computing = 0
 
 pub cases-hold : Each Says cases × Each Says further

@@ -10,10 +10,10 @@ use Rattle.algebra.specs.Held.{wordsOf, coefficientsOf, firstTerms}
 use Rattle.answers.specs.Refusals.{LIST}
 use Rattle.answers.specs.Answers.{Told, Told.done, Told.refused}
 use Rattle.answers.specs.Judge.{Judged, Judged.good, Judged.fails}
-use Rattle.numbers.specs.Item.{Item, Item.got, Item.cut, Item.bad}
+use Rattle.numbers.specs.Item.{Item, Item.got, Item.stopped, Fault, Fault.cut, Fault.bad}
 use Rattle.sums.specs.Part.{part}
 use Rattle.sums.specs.Held.{HeldSum}
-use Rattle.change.specs.Pairs.{Pair, pair, ListFault, ListFault.ended, ListFault.damaged, ListFault.unknown, Listed, Listed.listed, Listed.faulty, refusalOf}
+use Rattle.change.specs.Pairs.{Pair, pair, ListFault, ListFault.item, ListFault.unknown, refusalOf}
 use Rattle.change.specs.declared.lists.Fault as code
 use Rattle.change.specs.declared.lists.Fault.the-variants.{Ended, Damaged, Unknown}
 use Rattle.change.specs.declared.lists.Listed as answer
@@ -21,23 +21,22 @@ use Rattle.change.specs.declared.lists.Listed.the-variants.{Pairs, Fault
 
 -- each case of the code's enums. Of a list that was read the code answers the number of pairs, and the place after them
 abbrev pub faultOf : code.Fault → ListFault
-faultOf Ended = ended
-faultOf Damaged = damaged
+faultOf Ended = item cut
+faultOf Damaged = item bad
 faultOf Unknown = unknown
 
-abbrev pub listedOf : answer.Listed → Listed ℕ
-listedOf (Pairs n next) = listed n next
-listedOf (Faulty what place) = faulty (faultOf what) place
+abbrev pub listedOf : answer.Listed → Item ListFault ℕ
+listedOf (Pairs n next) = got n next
+listedOf (Faulty what place) = stopped (faultOf what) place
 
 -- the fault of an item, as one of the list, and what a list at fault is refused with (a value has no fault: nothing asks for its case)
-abbrev pub itemFault : {A : Type 0} → Item A → Listed ℕ
-itemFault (got a next) = faulty damaged next
-itemFault (cut place) = faulty ended place
-itemFault (bad place) = faulty damaged place
+abbrev pub itemFault : {A : Type 0} → Item Fault A → Item ListFault ℕ
+itemFault (got a next) = stopped (item bad) next
+itemFault (stopped what place) = stopped (item what) place
 
-abbrev pub listFault : {A : Type 0} → Listed A → Told
-listFault (listed a next) = refused LIST next
-listFault (faulty what place) = refused (refusalOf what) place
+abbrev pub listFault : {A : Type 0} → Item ListFault A → Told
+listFault (got a next) = refused LIST next
+listFault (stopped what place) = refused (refusalOf what) place
 
 -- ---- Pairs in lists and areas: vs has their variables, ns their numbers of terms; the terms of pair j are in part j of ws and cs.
 
@@ -59,9 +58,9 @@ abbrev pub Kept : ℕ → List ℕ → List ℕ → List ℕ → List ℤ → Ty
 Kept pairs vs ns ws cs = (j : ℕ) → j < pairs → KeptAt vs ns ws cs j
 
 -- if a list was read, its pairs are kept
-pub record KeepsRead (read : Listed (List Pair)) (vs ns ws : List ℕ) (cs : List ℤ) : Type 0 where
-  pub kept : (ps : List Pair) (next : ℕ) → read ≡ listed ps next → Kept (length ps) vs ns ws cs
-  pub pairs-are : (ps : List Pair) (next : ℕ) → read ≡ listed ps next → pairsFrom 0 (length ps) vs ns ws cs ≡ ps
+pub record KeepsRead (read : Item ListFault (List Pair)) (vs ns ws : List ℕ) (cs : List ℤ) : Type 0 where
+  pub kept : (ps : List Pair) (next : ℕ) → read ≡ got ps next → Kept (length ps) vs ns ws cs
+  pub pairs-are : (ps : List Pair) (next : ℕ) → read ≡ got ps next → pairsFrom 0 (length ps) vs ns ws cs ≡ ps
 
 -- what applying so many pairs to a sum of n terms, in fp and fc, asks
 pub record CanApply (pairs : ℕ) (vs ns ws : List ℕ) (cs : List ℤ) (fp : List ℕ) (fc : List ℤ) (n : ℕ) : Type 0 where

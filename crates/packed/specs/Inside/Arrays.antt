@@ -13,7 +13,7 @@ use Rattle.algebra.specs.Held.{wordsOf, coefficientsOf, firstTerms}
 use Rattle.answers.specs.Answers.{Told.done, Told.refused, Outcome, outcome}
 use Rattle.answers.specs.Areas.{written, cleared}
 use Rattle.answers.specs.Judge.{Judged, Judged.good, Judged.fails}
-use Rattle.numbers.specs.Item.{Item, Item.got, Item.cut, Item.bad}
+use Rattle.numbers.specs.Item.{Item, Item.got, Item.stopped, Fault}
 use Rattle.packed.specs.ReadSum.{readTerms}
 use Rattle.packed.specs.Pack.{goodTerms}
 
@@ -25,17 +25,16 @@ abbrev pub wordsFor : Sum → List ℕ
 wordsFor s = map (λ (t : Term). wordFor (t .pattern)) s
 
 -- arrays that held ws₀ and cs₀ hold the sum, if one was read. Whatever was, only their first `count` places are other than before
-pub record Holds (count : ℕ) (item : Item Sum) (ws₀ : List ℕ) (cs₀ : List ℤ) (ws : List ℕ) (cs : List ℤ) : Type 0 where
+pub record Holds (count : ℕ) (item : Item Fault Sum) (ws₀ : List ℕ) (cs₀ : List ℤ) (ws : List ℕ) (cs : List ℤ) : Type 0 where
   pub words-kept : ws ≡ written (take count ws) ws₀
   pub coefficients-kept : cs ≡ written (take count cs) cs₀
   pub words-are : (s : Sum) (next : ℕ) → item ≡ got s next → ws ≡ written (wordsFor s) ws₀
   pub coefficients-are : (s : Sum) (next : ℕ) → item ≡ got s next → cs ≡ written (coefficientsOf s) cs₀
 
 -- the number of terms, and the arrays with them; on a fault the first `count` places are cleared
-unfoldable pub takenInto : ℕ → Item Sum → List ℕ → List ℤ → Item ℕ × List ℕ × List ℤ
+unfoldable pub takenInto : ℕ → Item Fault Sum → List ℕ → List ℤ → Item Fault ℕ × List ℕ × List ℤ
 takenInto count (got s next) ws cs = (got (length s) next, written (wordsOf s) ws, written (coefficientsOf s) cs)
-takenInto count (cut place) ws cs = (cut place, cleared 0 count ws, cleared (pos 0) count cs)
-takenInto count (bad place) ws cs = (bad place, cleared 0 count ws, cleared (pos 0) count cs)
+takenInto count (stopped what place) ws cs = (stopped what place, cleared 0 count ws, cleared (pos 0) count cs)
 
 -- the same as an outcome, of an operation that reads all of its bytes
 unfoldable pub wholeInto : ℕ → Judged Sum → List ℕ → List ℤ → Outcome (List ℕ × List ℤ)

@@ -7,7 +7,7 @@ use Rattle.numbers.specs.Item.{Item.got}
 use Rattle.numbers.specs.Number.{readNumber}
 use Rattle.numbers.proofs.Items.{number-stopped, number-answered}
 use Rattle.change.specs.Pairs.{readPairs}
-use Rattle.change.proofs.Reading.{From}
+use Rattle.numbers.proofs.Items.{From}
 use Rattle.change.proofs.TakePairs.{leaves-fault, leaves-all, tells}
 use Rattle.change.proofs.TakeList.{pairs-stopped, pairs-read, count-stops, many-stop, pairs-stop, left-over, all-read}
 use Rattle.change.proofs.lists.read_list.Statement.{statement}

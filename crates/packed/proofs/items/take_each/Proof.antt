@@ -1,6 +1,6 @@
 -- `take_each` meets its contract: what `take_terms` leaves on a fault is cleared.
 use lib.ListN.{length}
-use Rattle.numbers.proofs.Items.{stopped, is-value}
+use Rattle.numbers.proofs.Items.{stop-met, is-value}
 use Rattle.packed.proofs.Taking.{each-stops, each-taken}
 use Rattle.packed.proofs.TakeSum.{terms-all}
 use borrow.Author.Needs.{needs}
@@ -29,7 +29,7 @@ returns : tie.Need-returns
 returns c =
     let d = c .before .before .before .before .before .before .before in
     let r = d .before .before .before .before .take-terms in
-    let stop = stopped (r .result) (d .match .keys2) length _ (r .ensures .0) in
+    let stop = stop-met (r .result) (d .match .keys2) length _ (r .ensures .0) in
     each-stops _ stop (r .ensures .1) (c .before .before .before .before .before .clear-words .ensures) (c .before .clear-coefficients .ensures)
 
 same-length-3 : tie.Need-same-length-3

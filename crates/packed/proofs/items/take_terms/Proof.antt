@@ -5,7 +5,7 @@ use native.Mathlib.Omega.{arith}
 use borrow.Author.Needs.{needs}
 use borrow.Author.Tests.{not-true, not-false}
 use Rattle.numbers.specs.Code.{code}
-use Rattle.numbers.proofs.Items.{From, Alike.both-bad, stopped, answered}
+use Rattle.numbers.proofs.Items.{From, Alike.both, stop-met, answered}
 use Rattle.packed.specs.ReadSum.{readCoefficient, readExponents}
 use Rattle.packed.specs.Inside.Arrays.{wordFor}
 use Rattle.packed.proofs.ReadItems.{number-is, size-is}
@@ -56,7 +56,7 @@ same-length-2 c = search needs
 returns : tie.Need-returns Inv-loop μ-loop
 returns c =
     let r = c .before .read-coefficient in
-    let stop = stopped (r .result) (c .match .keys2) code _ (r .ensures) in
+    let stop = stop-met (r .result) (c .match .keys2) code _ (r .ensures) in
     let inv = c .before .before .before .loop .inv in
     refuses inv stop (first-stops inv (c .before .before .loop-test .taken) stop)
 
@@ -76,7 +76,7 @@ returns-2 : tie.Need-returns-2 Inv-loop μ-loop
 returns-2 c =
     let d = c .before .before in
     let r = c .before .read-exponents in
-    let stop = stopped (r .result) (c .match2 .keys2) wordFor _ (r .ensures) in
+    let stop = stop-met (r .result) (c .match2 .keys2) wordFor _ (r .ensures) in
     let inv = d .before .before .before .before .before .loop .inv in
     refuses inv stop (rest-stops inv (d .before .before .before .before .loop-test .taken) (first-of d) stop)
 
@@ -98,7 +98,7 @@ returns-3 c =
     let d = e .before .before .before .before in
     let loop = d .before .before .before .before .before .loop in
     let inside = d .before .before .before .before .loop-test .taken in
-    refuses (loop .inv) {A = ℕ} both-bad (disorder (loop .inv) inside (first-of d) (rest-of e) (sym (c .before .stands-after .ensures) ∙ not-true _ (c .if1 .taken)))
+    refuses (loop .inv) {A = ℕ} both (disorder (loop .inv) inside (first-of d) (rest-of e) (sym (c .before .stands-after .ensures) ∙ not-true _ (c .if1 .taken)))
 
 decode-requires : tie.Need-decode-requires Inv-loop μ-loop
 decode-requires c κs = search needs
