@@ -6,6 +6,7 @@ use lib.IntN.{ℤ, pos, negsuc}
 use lib.ListN.{replicate}
 use Rattle.answers.proofs.Tables.{_also_}
 use Rattle.answers.specs.Promised.{Each}
+use Rattle.algebra.specs.Limits.{variables}
 use Rattle.algebra.specs.Pattern.{times, degree, same, thenBy, byPowers, order}
 use Rattle.algebra.specs.Collect.{settle, insert, gather, keep, dropZeros, collect, occurs, countNew, spread}
 use Rattle.algebra.specs.Arithmetic as arithmetic
@@ -13,6 +14,7 @@ use Rattle.algebra.specs.Arithmetic.{row, pairs, _⊕_, sumSpread, _⊗_, produ
 use Rattle.answers.specs.Refusals.{SHAPE, NODE, DEGREE, WEIGHT, SPREAD}
 use Rattle.numbers.specs.Number.{groupsOf, numberBytes}
 use Rattle.numbers.specs.Code.{code}
+use Rattle.packed.proofs.CaseBytes.{powers, two, heaviest}
 use Rattle.packed.specs.Packed.{exponentBytes, termBytes, bytesOfTerms, packed}
 use Rattle.answers.specs.Judge.{Judged, Judged.good, Judged.fails, holding, andThen}
 use Rattle.nodes.specs.Node.{Kind, Kind.integer, Kind.variable, Kind.sum, Kind.product, Kind.power, tableOf, isIn, isKind, readNode}
@@ -63,10 +65,6 @@ b = variable 1
 minusOne : Kind
 minusOne = integer (negsuc 0)
 
--- n exponents 0
-none : ℕ → List ℕ
-none n = replicate n 0
-
 -- a-a
 nothing : List Kind
 unfolding a minusOne
@@ -92,13 +90,13 @@ largest = 2 ^ 62
 -- ---- The table.
 
 pub table : List Case
-unfolding packs stops unshaped broken a b minusOne none nothing tall rectangle ones largest tableOf
+unfolding packs stops unshaped broken a b minusOne nothing tall rectangle ones largest tableOf
 table =
     -- a+a with one node for a
-    packs (a ∷ sum 0 0 ∷ []) (1 ∷ 4 ∷ 1 ∷ none 7)
+    packs (a ∷ sum 0 0 ∷ []) (1 ∷ two 4 1 0)
     -- 2^62 and -2^62, and -2^63, which is no bad node
-    ∷ packs (integer (pos largest) ∷ []) (1 ∷ replicate 9 128 ++ (1 ∷ none 8))
-    ∷ packs (integer (negsuc (largest - 1)) ∷ []) (1 ∷ replicate 8 255 ++ (127 ∷ none 8))
+    ∷ packs (integer (pos largest) ∷ []) (1 ∷ heaviest ++ powers [])
+    ∷ packs (integer (negsuc (largest - 1)) ∷ []) (1 ∷ replicate 8 255 ++ (127 ∷ powers []))
     ∷ stops (integer (negsuc (2 ^ 63 - 1)) ∷ []) WEIGHT 0
     -- (2^61-2^61)*2 and 0^0*2^62+1: the weights are formal, that of zero here 2^62, and that of 0^0 is 1
     ∷ stops (integer (pos (2 ^ 61)) ∷ minusOne ∷ product 1 0 ∷ sum 0 2 ∷ integer (pos 2) ∷ product 3 4 ∷ []) WEIGHT 5
@@ -111,15 +109,15 @@ table =
     -- tables of 0, 1, 192 and 195 numbers, and one of 4 with no such kind
     ∷ unshaped []
     ∷ unshaped (pos 0 ∷ [])
-    ∷ packs (ones 64) (1 ∷ 2 ∷ none 8)
+    ∷ packs (ones 64) (1 ∷ two 2 0 0)
     ∷ unshaped (tableOf (ones 65))
     ∷ unshaped (pos 5 ∷ pos 0 ∷ pos 0 ∷ pos 0 ∷ [])
-    -- no such kind, a fixed 0 that is 1, variable 8, exponent 61
+    -- no such kind, a fixed 0 that is 1, a variable too many, exponent 61
     ∷ broken [] 0 (pos 5) (pos 0) (pos 0)
     ∷ broken [] 0 (negsuc 0) (pos 0) (pos 0)
     ∷ broken [] 0 (pos 0) (pos 1) (pos 1)
     ∷ broken [] 0 (pos 1) (pos 0) (pos 1)
-    ∷ broken [] 0 (pos 1) (pos 8) (pos 0)
+    ∷ broken [] 0 (pos 1) (pos variables) (pos 0)
     ∷ broken (a ∷ []) 1 (pos 4) (pos 0) (pos 61)
     -- a child that is the node itself, and one below 0
     ∷ broken (a ∷ []) 1 (pos 2) (pos 0) (pos 1)
@@ -130,7 +128,7 @@ table =
     ∷ []
 
 pub cases-hold : Each Says table
-unfolding table packs stops unshaped broken a b minusOne none nothing tall rectangle ones largest tableOf isIn isKind readNode holding andThen judgeNode judgeNodes isShape judgeTable formalDegree formalWeight nodeSpread nodeSum times degree same thenBy byPowers order settle insert gather keep dropZeros collect occurs countNew spread arithmetic.integer arithmetic.variable row pairs _⊕_ sumSpread _⊗_ productSpread arithmetic.power powerSpread groupsOf numberBytes code exponentBytes termBytes bytesOfTerms packed
+unfolding table packs stops unshaped broken a b minusOne nothing tall rectangle ones largest tableOf isIn isKind readNode holding andThen judgeNode judgeNodes isShape judgeTable formalDegree formalWeight nodeSpread nodeSum times degree same thenBy byPowers order settle insert gather keep dropZeros collect occurs countNew spread arithmetic.integer arithmetic.variable row pairs _⊕_ sumSpread _⊗_ productSpread arithmetic.power powerSpread groupsOf numberBytes code exponentBytes termBytes bytesOfTerms packed
 cases-hold =
     refl
     also refl also refl also refl

@@ -4,7 +4,7 @@ use mathlib.Core.List.{List, [], _∷_, _++_}
 use Prim.Native.Nat.{ℕ, _+_, _-_, _*_, _^_}
 use Prim.Native.String.{String}
 use lib.IntN.{ℤ, pos}
-use lib.ListN.{replicate}
+use lib.ListN.{length, take, replicate}
 use Rattle.algebra.specs.Limits.{variables, mostTerms, workPlaces}
 use Rattle.algebra.specs.Pattern.{times, degree, same, thenBy, byPowers, order}
 use Rattle.algebra.specs.Sum.{degreeOf, weight}
@@ -26,6 +26,7 @@ use Rattle.numbers.specs.Item as item
 use Rattle.numbers.specs.Number.{groupsOf, numberBytes, readByte, readGroups, readNumber}
 use Rattle.numbers.specs.Code.{code, decode}
 use Rattle.packed.specs.Packed.{exponentBytes, termBytes, bytesOfTerms, packed, mostBytes}
+use Rattle.packed.proofs.CaseBytes.{square}
 use Rattle.packed.specs.Judge.{weighs, follows}
 use Rattle.packed.specs.ReadSum.{readCoefficient, readExponents, readTerm, readTerms, readSum, readWhole}
 use Rattle.packed.specs.Result.{heldInto, packedInto}
@@ -78,46 +79,43 @@ Says (packs count ws cs number t) = Gets (pack count ws cs (words (mostBytes var
 Says (slopes bytes v number t) = Gets (slope bytes v (words (mostBytes variables))) number t
 Says (puts bytes list number t) = Gets (substitute bytes list (words workPlaces) (coefficients workPlaces) (words (mostBytes variables))) number t
 
--- ---- Short names. A coefficient stands as its code: 2n for n from 0 up, and −2n − 1 for n below.
+-- ---- Short names.
 
--- one term with powers of a and b
-two : ℕ → ℕ → ℕ → List ℕ
-two c p q = c ∷ p ∷ q ∷ replicate 6 0
+-- how many bytes a sum of one term takes whose code has one byte, and all but one of those of a² + 2ab
+abbrev oneTerm : ℕ
+oneTerm = 2 + variables
 
--- (a+b)^2-b^2
-square : List ℕ
-unfolding two
-square = 2 ∷ two 2 2 0 ++ two 4 1 1
+abbrev lessOne : ℕ
+lessOne = length square - 1
 
 -- ---- The table.
 
 pub table : List Case
-unfolding two square
 table =
     texts "a^60*a" tablePlaces 4 (done 4)
     ∷ texts "a^61" tablePlaces (12 * 2 ^ 32 + 3) (refused TEXT 3)
     ∷ texts "a" 191 (2 ^ 32) (refused ROOM 0)
     -- a^60*a: the node that is refused is the fourth
-    ∷ simplifies (variable 0 ∷ power 0 60 ∷ []) 10 (done 10)
+    ∷ simplifies (variable 0 ∷ power 0 60 ∷ []) oneTerm (done oneTerm)
     ∷ simplifies (variable 0 ∷ power 0 60 ∷ variable 0 ∷ product 1 2 ∷ []) (4 * 2 ^ 32 + 3) (refused DEGREE 3)
     ∷ simplifies [] (2 * 2 ^ 32) (refused SHAPE 0)
     -- a sum, and the same without its last byte
     ∷ unpacks square 2 (done 2)
-    ∷ unpacks (2 ∷ two 2 2 0 ++ (4 ∷ 1 ∷ 1 ∷ replicate 5 0)) (7 * 2 ^ 32 + 18) (refused SUM 18)
+    ∷ unpacks (take lessOne square) (7 * 2 ^ 32 + lessOne) (refused SUM lessOne)
     ∷ unpacks [] (7 * 2 ^ 32) (refused SUM 0)
-    ∷ packs 1 (1 ∷ []) (pos 5 ∷ []) 10 (done 10)
+    ∷ packs 1 (1 ∷ []) (pos 5 ∷ []) oneTerm (done oneTerm)
     ∷ packs 2 (1 ∷ 0 ∷ []) (pos 5 ∷ pos 0 ∷ []) (7 * 2 ^ 32 + 1) (refused SUM 1)
     ∷ packs (2 ^ 64 - 1) [] [] (2 * 2 ^ 32) (refused SHAPE 0)
-    ∷ slopes square 0 19 (done 19)
-    ∷ slopes square 8 (9 * 2 ^ 32) (refused VARIABLE 0)
-    -- b := 0; the variable 8 in a list; a byte left over
-    ∷ puts square (1 ∷ 1 ∷ 0 ∷ []) 10 (done 10)
-    ∷ puts square (1 ∷ 8 ∷ []) (9 * 2 ^ 32 + 1) (refused VARIABLE 1)
+    ∷ slopes square 0 (length square) (done (length square))
+    ∷ slopes square variables (9 * 2 ^ 32) (refused VARIABLE 0)
+    -- b := 0; a variable too many in a list; a byte left over
+    ∷ puts square (1 ∷ 1 ∷ 0 ∷ []) oneTerm (done oneTerm)
+    ∷ puts square (1 ∷ variables ∷ []) (9 * 2 ^ 32 + 1) (refused VARIABLE 1)
     ∷ puts square (1 ∷ 1 ∷ 0 ∷ 5 ∷ []) (8 * 2 ^ 32 + 3) (refused LIST 3)
     ∷ []
 
 pub cases-hold : Each Says table
-unfolding table two square quoted times degree same thenBy byPowers order degreeOf weight wordOf fieldsOf termsBy word exponents terms isValid settle insert gather keep dropZeros collect occurs countNew spread row pairs _⊕_ sumSpread _⊗_ productSpread arithmetic.variable arithmetic.power powerSpread algebra-slope.slope rows pairRows algebra-substitute.substitute pairDegree pairWeight largestPower pairSpread holding andThen item.andThen item.provided item.mapped groupsOf numberBytes readByte readGroups readNumber code decode exponentBytes termBytes bytesOfTerms packed weighs follows readCoefficient readExponents readTerm readTerms readSum readWhole heldInto packedInto unpack isGood goodTerms pack tableOf isIn isKind readNode formalDegree formalWeight nodeSpread nodeSum judgeNode judgeNodes isShape judgeTable tableSum simplify isDigit letterOf nodeCount nodesOf reader.takes reader.moreDigits reader.digitsAt reader.readAtom reader.readExponent reader.readFactor reader.readMore reader.isTimes reader.readTerm reader.isSign reader.signed reader.afterMinus reader.readSum reader.inBrackets reader.readWhole judgeText tableInto readFormula judgeSlope slope item.renamed readPairs readList judgePair judgePairs judgeSubstitute substitute
+unfolding table quoted times degree same thenBy byPowers order degreeOf weight wordOf fieldsOf termsBy word exponents terms isValid settle insert gather keep dropZeros collect occurs countNew spread row pairs _⊕_ sumSpread _⊗_ productSpread arithmetic.variable arithmetic.power powerSpread algebra-slope.slope rows pairRows algebra-substitute.substitute pairDegree pairWeight largestPower pairSpread holding andThen item.andThen item.provided item.mapped groupsOf numberBytes readByte readGroups readNumber code decode exponentBytes termBytes bytesOfTerms packed weighs follows readCoefficient readExponents readTerm readTerms readSum readWhole heldInto packedInto unpack isGood goodTerms pack tableOf isIn isKind readNode formalDegree formalWeight nodeSpread nodeSum judgeNode judgeNodes isShape judgeTable tableSum simplify isDigit letterOf nodeCount nodesOf reader.takes reader.moreDigits reader.digitsAt reader.readAtom reader.readExponent reader.readFactor reader.readMore reader.isTimes reader.readTerm reader.isSign reader.signed reader.afterMinus reader.readSum reader.inBrackets reader.readWhole judgeText tableInto readFormula judgeSlope slope item.renamed readPairs readList judgePair judgePairs judgeSubstitute substitute
 cases-hold =
     (refl, refl) also (refl, refl) also (refl, refl)
     also (refl, refl) also (refl, refl) also (refl, refl)

@@ -23,4 +23,5 @@ pub mod ReaderForms
 pub mod TakenApart
 pub mod PassedOn
 pub mod Unique
+pub mod CaseBytes
 pub mod Cases

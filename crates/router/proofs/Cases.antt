@@ -2,7 +2,7 @@
 use mathlib.Core.Path.{_≡_, refl}
 use mathlib.Core.Bool.{Bool, true, false, _&&_}
 use mathlib.Core.List.{List, [], _∷_, _++_}
-use Prim.Native.Nat.{ℕ, _-_}
+use Prim.Native.Nat.{ℕ, _+_, _*_, _-_}
 use lib.Dec.{leb}
 use lib.IntN.{ℤ, pos, negsuc, natAbs, one, pow, _+ℤ_, _-ℤ_}
 use lib.ListN.{length, replicate}
@@ -19,11 +19,12 @@ use Rattle.answers.specs.Promised.{Each}
 use Rattle.numbers.specs.Item as item
 use Rattle.numbers.specs.Number.{readByte, readGroups, readNumber}
 use Rattle.numbers.specs.Code.{decode}
+use Rattle.packed.proofs.CaseBytes.{powers, two, square, heaviest}
 use Rattle.packed.specs.Judge.{weighs, follows}
 use Rattle.packed.specs.ReadSum.{readCoefficient, readExponents, readTerm, readTerms, readSum, readWhole}
 use Rattle.packed.specs.Whole.{judged}
 use Rattle.numbers.specs.Bytes.{plainNumber, signedNumber, plainBytes, signedBytes}
-use Rattle.estimates.specs.Readings.{twoByteNumbers, spelled, beforeNegative, judgeReadings}
+use Rattle.estimates.specs.Readings.{readingBytes, twoByteNumbers, spelled, beforeNegative, judgeReadings}
 use Rattle.router.specs.Cases.{ofLetters, inBytes, numbersIn, together, valueAt, isWithin}
 use Rattle.estimates.specs.Range.{judgeRange, judgeTerms}
 use Rattle.router.specs.Estimate.{judgeEstimate, answerInto, estimate}
@@ -48,25 +49,13 @@ Says (reaches bytes rs ts xs n) =
     (isWithin (ofLetters xs) (ofLetters rs) (unsigned (ofLetters ts)) ≡ true)
     × ((valueAt (judged SUM (readWhole variables bytes)) (ofLetters xs) ≡ good n) × (together (judgeEstimate bytes (inBytes rs) (inBytes ts)) ≡ good n))
 
--- ---- Short names. A coefficient stands as its code: 2n for n from 0 up, and −2n − 1 for n below.
-
--- one term with powers of a and b
-two : ℕ → ℕ → ℕ → List ℕ
-two c p q = c ∷ p ∷ q ∷ replicate 6 0
-
--- (a+b)^2-b^2, which is a² + 2ab
-square : List ℕ
-unfolding two
-square = 2 ∷ two 2 2 0 ++ two 4 1 1
+-- ---- Short names.
 
 -- the number 5 of places
 fives : ℕ → List ℕ
 fives n = replicate n 5
 
--- the code of 2^62, of −2^62
-heaviest : List ℕ
-heaviest = replicate 9 128 ++ (1 ∷ [])
-
+-- the code of −2^62
 lowest : List ℕ
 lowest = 255 ∷ replicate 7 255 ++ (127 ∷ [])
 
@@ -76,10 +65,14 @@ a n = n ∷ []
 ab : ℤ → ℤ → List ℤ
 ab m n = m ∷ n ∷ []
 
+-- how long the bytes of the readings are
+abbrev long : ℕ
+long = readingBytes variables
+
 -- ---- The table.
 
 pub table : List Case
-unfolding two square fives heaviest lowest a ab
+unfolding fives lowest a ab
 table =
     -- what is left in an area of 18 bytes where estimate and margin are 160 and 71
     leaves square (ab (pos 10) (pos 3)) (ab (pos 1) (pos 2)) (fives 18) (160 ∷ replicate 7 0 ++ (71 ∷ replicate 7 0) ++ fives 2) 16
@@ -92,20 +85,20 @@ table =
     ∷ gives (1 ∷ two 2 1 59) (ab (pos 0) (pos 32767)) (ab (pos 0) (pos 1)) (good (pos 0, 0))
     ∷ gives (1 ∷ two 2 59 1) (ab (pos 32767) (pos 0)) (ab (pos 0) (pos 1)) (fails RANGE 0)
     -- ±2^62 alone; and the lowest reading, raised to 65535
-    ∷ gives (1 ∷ heaviest ++ replicate 8 0) [] [] (good (pos largestWeight, 0))
-    ∷ gives (1 ∷ lowest ++ replicate 8 0) [] [] (good (negsuc (largestWeight - 1), 0))
+    ∷ gives (1 ∷ heaviest ++ powers []) [] [] (good (pos largestWeight, 0))
+    ∷ gives (1 ∷ lowest ++ powers []) [] [] (good (negsuc (largestWeight - 1), 0))
     ∷ gives (1 ∷ two 2 1 0) (a (negsuc 32767)) (a (pos 32767)) (good (negsuc 32767, 32767))
     -- −5, in two's complement; the zero sum
     ∷ leaves (1 ∷ two 1 1 0) (a (pos 5)) (a (pos 2)) (fives 16) (251 ∷ replicate 7 255 ++ (2 ∷ replicate 7 0)) 16
     ∷ gives (0 ∷ []) (a (negsuc 32767)) (a (pos 32767)) (good (pos 0, 0))
     -- the first negative tolerance, also of a letter that is not in the sum; 0 is none
     ∷ gives square [] (pos 0 ∷ pos 4 ∷ negsuc 0 ∷ pos 0 ∷ negsuc 32767 ∷ []) (fails READING 2)
-    ∷ leaves square [] (replicate 7 (pos 0) ++ (negsuc 0 ∷ [])) (fives 16) (fives 16) 655367
-    -- a length that is not 16 comes before that; and the sum before both
-    ∷ takes square (replicate 15 0) (replicate 16 255) (fails READING 0)
-    ∷ takes square (replicate 16 0) (replicate 17 255) (fails READING 0)
-    ∷ takes square (replicate 16 0) [] (fails READING 0)
-    ∷ takes (square ++ (0 ∷ [])) (replicate 15 0) [] (fails SUM 19)
+    ∷ leaves square [] (replicate (variables - 1) (pos 0) ++ (negsuc 0 ∷ [])) (fives 16) (fives 16) (10 * narrowUnit + (variables - 1))
+    -- a length that is not two bytes for each variable comes before that; and the sum before both
+    ∷ takes square (replicate (long - 1) 0) (replicate long 255) (fails READING 0)
+    ∷ takes square (replicate long 0) (replicate (long + 1) 255) (fails READING 0)
+    ∷ takes square (replicate long 0) [] (fails READING 0)
+    ∷ takes (square ++ (0 ∷ [])) (replicate (long - 1) 0) [] (fails SUM (length square))
     -- READING before RANGE
     ∷ gives (1 ∷ two 2 60 0) (a (pos 2000)) (pos 0 ∷ negsuc 0 ∷ []) (fails READING 1)
     -- an area of 15 bytes comes before all; on refusal the area stays
@@ -115,7 +108,7 @@ table =
     ∷ []
 
 pub cases-hold : Each Says table
-unfolding table spelled two square fives heaviest lowest a ab degree thenBy byPowers order weight total patternValue value patternSize size unsigned raisedBy margin pow one holding andThen item.andThen item.provided item.mapped readByte readGroups readNumber decode weighs follows readCoefficient readExponents readTerm readTerms readSum readWhole plainNumber signedNumber plainBytes signedBytes twoByteNumbers beforeNegative judgeReadings judgeRange judgeTerms judgeEstimate answerInto estimate
+unfolding table spelled fives lowest a ab degree thenBy byPowers order weight total patternValue value patternSize size unsigned raisedBy margin pow one holding andThen item.andThen item.provided item.mapped readByte readGroups readNumber decode weighs follows readCoefficient readExponents readTerm readTerms readSum readWhole plainNumber signedNumber plainBytes signedBytes twoByteNumbers beforeNegative judgeReadings judgeRange judgeTerms judgeEstimate answerInto estimate
 cases-hold =
     refl also (refl, (refl, refl))
     also refl also refl also refl
