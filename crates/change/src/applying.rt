@@ -31,7 +31,9 @@ fn apply_pair(
 ) -> Answer
     requires { ⌜ CanPut v (now sp) (now sc) (now fp) (now fc) ⌝ }
     requires { ⌜ Room (now patterns) (now coefficients) ⌝ }
-    ensures { λ r. ⌜ outcome (told r) (now (patterns .exit), now (coefficients .exit)) ≡ heldInto (judgePair j (pair v (terms (now (sp .entry)) (now (sc .entry)))) (terms (now (fp .entry)) (now (fc .entry)))) (now (patterns .entry)) (now (coefficients .entry)) ⌝ }
+    ensures { λ r. ⌜ outcome (told r) (now (patterns .exit), now (coefficients .exit))
+        ≡ heldInto (judgePair j (pair v (terms (now (sp .entry)) (now (sc .entry)))) (terms (now (fp .entry)) (now (fc .entry)))) (now (patterns .entry))
+        (now (coefficients .entry)) ⌝ }
 {
     let measure = pair::measure(v, sp, sc, fp, fc);
     if measure.degree > Pattern::LARGEST_DEGREE {
@@ -60,8 +62,12 @@ pub(crate) fn apply_pairs(
 ) -> Answer
     requires { ⌜ CanApply pairs (now letters) (now counts) (now patterns) (now coefficients) (now fp) (now fc) n ⌝ }
     requires { ⌜ Room (now fp) (now fc) ⌝ }
-    ensures { λ r. ⌜ told r ≡ termsTold (judgePairs 0 (pairsFrom 0 pairs (now (letters .entry)) (now (counts .entry)) (now (patterns .entry)) (now (coefficients .entry))) (firstTerms n (now (fp .entry)) (now (fc .entry)))) ⌝ }
-    ensures { λ r. ⌜ HoldsGood (judgePairs 0 (pairsFrom 0 pairs (now (letters .entry)) (now (counts .entry)) (now (patterns .entry)) (now (coefficients .entry))) (firstTerms n (now (fp .entry)) (now (fc .entry)))) (now (fp .exit)) (now (fc .exit)) ⌝ }
+    ensures { λ r. ⌜ told r
+        ≡ termsTold (judgePairs 0 (pairsFrom 0 pairs (now (letters .entry)) (now (counts .entry)) (now (patterns .entry)) (now (coefficients .entry)))
+        (firstTerms n (now (fp .entry)) (now (fc .entry)))) ⌝ }
+    ensures { λ r. ⌜ HoldsGood
+        (judgePairs 0 (pairsFrom 0 pairs (now (letters .entry)) (now (counts .entry)) (now (patterns .entry)) (now (coefficients .entry)))
+        (firstTerms n (now (fp .entry)) (now (fc .entry)))) (now (fp .exit)) (now (fc .exit)) ⌝ }
 {
     let mut next_patterns = [0u64; MOST_TERMS];
     let mut next_coefficients = [0i64; MOST_TERMS];

@@ -36,7 +36,8 @@ fn write_slope(v: u64, n: usize, sp: &mut [u64], sc: &mut [i64], result: &mut [u
     requires { ⌜ n ≤ length (now sc) ⌝ }
     requires { ⌜ HeldSum (take n (now sp)) (take n (now sc)) ⌝ }
     requires { ⌜ mostBytes variables ≤ length (now result) ⌝ }
-    ensures { λ r. ⌜ outcome (told r) (now (result .exit)) ≡ packedInto (judgeSlope v (firstTerms n (now (sp .entry)) (now (sc .entry)))) (now (result .entry)) ⌝ }
+    ensures { λ r. ⌜ outcome (told r) (now (result .exit))
+        ≡ packedInto (judgeSlope v (firstTerms n (now (sp .entry)) (now (sc .entry)))) (now (result .entry)) ⌝ }
 {
     if v >= Pattern::VARIABLES {
         return Answer::Refused(Refusal::Variable, 0);
@@ -140,7 +141,8 @@ pub fn substitute(
     coefficients: &mut [i64],
     result: &mut [u8],
 ) -> Answer
-    ensures { λ r. ⌜ outcome (told r) (now (patterns .exit), now (coefficients .exit), now (result .exit)) ≡ substitute (now (bytes .entry)) (now (list .entry)) (now (patterns .entry)) (now (coefficients .entry)) (now (result .entry)) ⌝ }
+    ensures { λ r. ⌜ outcome (told r) (now (patterns .exit), now (coefficients .exit), now (result .exit))
+        ≡ substitute (now (bytes .entry)) (now (list .entry)) (now (patterns .entry)) (now (coefficients .entry)) (now (result .entry)) ⌝ }
 {
     if patterns.len() < WORK_PLACES {
         return Answer::Refused(Refusal::Room, 0);

@@ -59,7 +59,8 @@ fn read_pairs(
     requires { ⌜ workPlaces ≤ length (now patterns) ⌝ }
     requires { ⌜ workPlaces ≤ length (now coefficients) ⌝ }
     ensures { λ r. ⌜ listedOf r ≡ mapped length (readPairs variables count (now (list .entry)) at) ⌝ }
-    ensures { λ r. ⌜ KeepsRead (readPairs variables count (now (list .entry)) at) (now (letters .exit)) (now (counts .exit)) (now (patterns .exit)) (now (coefficients .exit)) ⌝ }
+    ensures { λ r. ⌜ KeepsRead (readPairs variables count (now (list .entry)) at) (now (letters .exit)) (now (counts .exit)) (now (patterns .exit))
+        (now (coefficients .exit)) ⌝ }
     ensures { λ r. ⌜ drop workPlaces (now (patterns .exit)) ≡ drop workPlaces (now (patterns .entry)) ⌝ }
     ensures { λ r. ⌜ drop workPlaces (now (coefficients .exit)) ≡ drop workPlaces (now (coefficients .entry)) ⌝ }
 {
@@ -105,7 +106,8 @@ pub(crate) fn read_list(
     requires { ⌜ workPlaces ≤ length (now patterns) ⌝ }
     requires { ⌜ workPlaces ≤ length (now coefficients) ⌝ }
     ensures { λ r. ⌜ listedOf r ≡ mapped length (readList variables (now (list .entry))) ⌝ }
-    ensures { λ r. ⌜ KeepsRead (readList variables (now (list .entry))) (now (letters .exit)) (now (counts .exit)) (now (patterns .exit)) (now (coefficients .exit)) ⌝ }
+    ensures { λ r. ⌜ KeepsRead (readList variables (now (list .entry))) (now (letters .exit)) (now (counts .exit)) (now (patterns .exit))
+        (now (coefficients .exit)) ⌝ }
     ensures { λ r. ⌜ drop workPlaces (now (patterns .exit)) ≡ drop workPlaces (now (patterns .entry)) ⌝ }
     ensures { λ r. ⌜ drop workPlaces (now (coefficients .exit)) ≡ drop workPlaces (now (coefficients .entry)) ⌝ }
 {

@@ -39,8 +39,10 @@ pub(crate) fn form(v: u64, n: usize, patterns: &mut [u64], coefficients: &mut [i
     requires { ⌜ HeldSum (take n (now patterns)) (take n (now coefficients)) ⌝ }
     requires { ⌜ weight (slope v (firstTerms n (now patterns) (now coefficients))) ≤ largestWeight ⌝ }
     ensures { λ r. ⌜ r ≡ length (slope v (firstTerms n (now (patterns .entry)) (now (coefficients .entry)))) ⌝ }
-    ensures { λ r. ⌜ now (patterns .exit) ≡ written (wordsOf (slope v (firstTerms n (now (patterns .entry)) (now (coefficients .entry))))) (now (patterns .entry)) ⌝ }
-    ensures { λ r. ⌜ now (coefficients .exit) ≡ written (coefficientsOf (slope v (firstTerms n (now (patterns .entry)) (now (coefficients .entry))))) (now (coefficients .entry)) ⌝ }
+    ensures { λ r. ⌜ now (patterns .exit)
+        ≡ written (wordsOf (slope v (firstTerms n (now (patterns .entry)) (now (coefficients .entry))))) (now (patterns .entry)) ⌝ }
+    ensures { λ r. ⌜ now (coefficients .exit)
+        ≡ written (coefficientsOf (slope v (firstTerms n (now (patterns .entry)) (now (coefficients .entry))))) (now (coefficients .entry)) ⌝ }
 {
     let mut count = 0;
     let mut k = 0;

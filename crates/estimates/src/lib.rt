@@ -38,7 +38,8 @@ pub fn estimate_at(
     requires { ⌜ length (now readings) ≡ variables ⌝ }
     requires { ⌜ length (now tolerances) ≡ variables ⌝ }
     requires { ⌜ beforeNegative (now tolerances) ≡ length (now tolerances) ⌝ }
-    ensures { λ r. ⌜ foundOf r ≡ judgeRange (terms (now (patterns .entry)) (now (coefficients .entry))) (measured (now (readings .entry)) (now (tolerances .entry))) ⌝ }
+    ensures { λ r. ⌜ foundOf r
+        ≡ judgeRange (terms (now (patterns .entry)) (now (coefficients .entry))) (measured (now (readings .entry)) (now (tolerances .entry))) ⌝ }
 {
     let mut raised = [0u64; VARIABLES];
     readings::raise(readings, tolerances, &mut raised);

@@ -37,7 +37,8 @@ pub struct Parts {
 // One term, its factors multiplied one by one.
 fn direct_term(c: i64, pattern: Pattern, readings: &[i64], raised: &[u64]) -> Both
     requires { ⌜ Covers (now readings) (now raised) ⌝ }
-    ensures { λ r. ⌜ Holds (r .most) (r .value) (natAbs c * patternSize (exponents (pattern .0)) (now (raised .entry))) (c *ℤ patternValue (exponents (pattern .0)) (now (readings .entry))) ⌝ }
+    ensures { λ r. ⌜ Holds (r .most) (r .value) (natAbs c * patternSize (exponents (pattern .0)) (now (raised .entry)))
+        (c *ℤ patternValue (exponents (pattern .0)) (now (readings .entry))) ⌝ }
 {
     let mut most = numbers::absolute(c);
     let mut value = c;
@@ -66,7 +67,8 @@ fn tabled_term(
 ) -> Both
     requires { ⌜ Covers (now readings) (now raised) ⌝ }
     requires { ⌜ Rows (now readings) (now raised) (exponents (pattern .0)) (now upper) (now powers) ⌝ }
-    ensures { λ r. ⌜ Holds (r .most) (r .value) (natAbs c * patternSize (exponents (pattern .0)) (now (raised .entry))) (c *ℤ patternValue (exponents (pattern .0)) (now (readings .entry))) ⌝ }
+    ensures { λ r. ⌜ Holds (r .most) (r .value) (natAbs c * patternSize (exponents (pattern .0)) (now (raised .entry)))
+        (c *ℤ patternValue (exponents (pattern .0)) (now (readings .entry))) ⌝ }
 {
     let stride = upper.len() / VARIABLES;
     let mut most = numbers::absolute(c);
@@ -110,7 +112,8 @@ fn added(most: u64, estimate: i64, plain: u64, raised: u64, product: i64) -> Par
 fn direct_sum(patterns: &[u64], coefficients: &[i64], readings: &[i64], raised: &[u64]) -> Parts
     requires { ⌜ length (now coefficients) ≡ length (now patterns) ⌝ }
     requires { ⌜ Covers (now readings) (now raised) ⌝ }
-    ensures { λ r. ⌜ Keeps (r .most) (r .estimate) (r .plain) (terms (now (patterns .entry)) (now (coefficients .entry))) (now (readings .entry)) (now (raised .entry)) ⌝ }
+    ensures { λ r. ⌜ Keeps (r .most) (r .estimate) (r .plain) (terms (now (patterns .entry)) (now (coefficients .entry))) (now (readings .entry))
+        (now (raised .entry)) ⌝ }
 {
     let mut most = 0;
     let mut estimate = 0;
@@ -147,7 +150,8 @@ fn tabled_sum(
     requires { ⌜ length (now coefficients) ≡ length (now patterns) ⌝ }
     requires { ⌜ Covers (now readings) (now raised) ⌝ }
     requires { ⌜ RowsFor (now readings) (now raised) (now patterns) (now upper) (now powers) ⌝ }
-    ensures { λ r. ⌜ Keeps (r .most) (r .estimate) (r .plain) (terms (now (patterns .entry)) (now (coefficients .entry))) (now (readings .entry)) (now (raised .entry)) ⌝ }
+    ensures { λ r. ⌜ Keeps (r .most) (r .estimate) (r .plain) (terms (now (patterns .entry)) (now (coefficients .entry))) (now (readings .entry))
+        (now (raised .entry)) ⌝ }
 {
     let mut most = 0;
     let mut estimate = 0;
@@ -207,7 +211,8 @@ pub(crate) fn sum_parts(
 ) -> Parts
     requires { ⌜ length (now coefficients) ≡ length (now patterns) ⌝ }
     requires { ⌜ Covers (now readings) (now raised) ⌝ }
-    ensures { λ r. ⌜ Keeps (r .most) (r .estimate) (r .plain) (terms (now (patterns .entry)) (now (coefficients .entry))) (now (readings .entry)) (now (raised .entry)) ⌝ }
+    ensures { λ r. ⌜ Keeps (r .most) (r .estimate) (r .plain) (terms (now (patterns .entry)) (now (coefficients .entry))) (now (readings .entry))
+        (now (raised .entry)) ⌝ }
 {
     if patterns.len() > FEW_TERMS {
         let used = used_by(patterns);

@@ -125,7 +125,8 @@ pub fn simplify(
     coefficients: &mut [i64],
     result: &mut [u8],
 ) -> Answer
-    ensures { λ r. ⌜ outcome (told r) (now (patterns .exit), now (coefficients .exit), now (result .exit)) ≡ simplify (now (table .entry)) (now (patterns .entry)) (now (coefficients .entry)) (now (result .entry)) ⌝ }
+    ensures { λ r. ⌜ outcome (told r) (now (patterns .exit), now (coefficients .exit), now (result .exit))
+        ≡ simplify (now (table .entry)) (now (patterns .entry)) (now (coefficients .entry)) (now (result .entry)) ⌝ }
 {
     if patterns.len() < WORK_PLACES {
         return Answer::Refused(Refusal::Room, 0);

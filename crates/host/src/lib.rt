@@ -31,7 +31,8 @@ pub extern "C" fn reeveboom_simplify(
     patterns: &mut [u64],
     coefficients: &mut [i64],
 ) -> u64
-    ensures { λ r. ⌜ (r, (now (patterns .exit), now (coefficients .exit), now (result .exit))) ≡ hosted wideUnit (simplify (now (table .entry)) (now (patterns .entry)) (now (coefficients .entry)) (now (result .entry))) ⌝ }
+    ensures { λ r. ⌜ (r, (now (patterns .exit), now (coefficients .exit), now (result .exit)))
+        ≡ hosted wideUnit (simplify (now (table .entry)) (now (patterns .entry)) (now (coefficients .entry)) (now (result .entry))) ⌝ }
 {
     formula::simplify(table, patterns, coefficients, result).for_host(HOST_UNIT)
 }
@@ -42,7 +43,8 @@ pub extern "C" fn reeveboom_unpack(
     patterns: &mut [u64],
     coefficients: &mut [i64],
 ) -> u64
-    ensures { λ r. ⌜ (r, (now (patterns .exit), now (coefficients .exit))) ≡ hosted wideUnit (unpack (now (sum .entry)) (now (patterns .entry)) (now (coefficients .entry))) ⌝ }
+    ensures { λ r. ⌜ (r, (now (patterns .exit), now (coefficients .exit)))
+        ≡ hosted wideUnit (unpack (now (sum .entry)) (now (patterns .entry)) (now (coefficients .entry))) ⌝ }
 {
     packed::unpack(sum, patterns, coefficients).for_host(HOST_UNIT)
 }
@@ -75,7 +77,8 @@ pub extern "C" fn reeveboom_substitute(
     patterns: &mut [u64],
     coefficients: &mut [i64],
 ) -> u64
-    ensures { λ r. ⌜ (r, (now (patterns .exit), now (coefficients .exit), now (result .exit))) ≡ hosted wideUnit (substitute (now (sum .entry)) (now (list .entry)) (now (patterns .entry)) (now (coefficients .entry)) (now (result .entry))) ⌝ }
+    ensures { λ r. ⌜ (r, (now (patterns .exit), now (coefficients .exit), now (result .exit)))
+        ≡ hosted wideUnit (substitute (now (sum .entry)) (now (list .entry)) (now (patterns .entry)) (now (coefficients .entry)) (now (result .entry))) ⌝ }
 {
     change::substitute(sum, list, patterns, coefficients, result).for_host(HOST_UNIT)
 }
@@ -88,7 +91,8 @@ pub extern "C" fn reeveboom_estimate(
     tolerances: &[u8],
     answer: &mut [u8],
 ) -> u64
-    ensures { λ r. ⌜ (r, now (answer .exit)) ≡ hosted narrowUnit (router.estimate (now (sum .entry)) (now (readings .entry)) (now (tolerances .entry)) (now (answer .entry))) ⌝ }
+    ensures { λ r. ⌜ (r, now (answer .exit))
+        ≡ hosted narrowUnit (router.estimate (now (sum .entry)) (now (readings .entry)) (now (tolerances .entry)) (now (answer .entry))) ⌝ }
 {
     router::estimate(sum, readings, tolerances, answer).for_host(ESTIMATE_UNIT)
 }

@@ -141,7 +141,8 @@ pub fn make_node(kind: Kind, degrees: &[u64], weights: &[u64]) -> Node
     requires { ⌜ length (now degrees) ≡ length (now weights) ⌝ }
     requires { ⌜ EachAtMost largestDegree (now degrees) ⌝ }
     requires { ⌜ EachAtMost largestWeight (now weights) ⌝ }
-    ensures { λ r. ⌜ (r .degree ≡ formalDegree (now (degrees .entry)) (kindOf kind)) × (r .weight ≡ capped (formalWeight (now (weights .entry)) (kindOf kind))) × (r .kind ≡ kind) ⌝ }
+    ensures { λ r. ⌜ (r .degree ≡ formalDegree (now (degrees .entry)) (kindOf kind)) × (r .weight ≡ capped (formalWeight (now (weights .entry)) (kindOf kind)))
+        × (r .kind ≡ kind) ⌝ }
 {
     let degree = formal_degree(kind, degrees);
     let weight = formal_weight(kind, weights);

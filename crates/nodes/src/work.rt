@@ -83,7 +83,8 @@ fn sum_by(
 ) -> Formed
     requires { ⌜ Ready i (now counts) (now patterns) (now coefficients) (sum a b) ⌝ }
     requires { ⌜ RoomOf (getD (now counts) a 0 + getD (now counts) b 0) (now sp) (now sc) ⌝ }
-    ensures { λ r. ⌜ FormedAt i (nodeFormed (sumsAt i (now (counts .entry)) (now (patterns .entry)) (now (coefficients .entry))) (sum a b)) (formedOf r) (now (patterns .entry)) (now (coefficients .entry)) (now (patterns .exit)) (now (coefficients .exit)) ⌝ }
+    ensures { λ r. ⌜ FormedAt i (nodeFormed (sumsAt i (now (counts .entry)) (now (patterns .entry)) (now (coefficients .entry))) (sum a b)) (formedOf r)
+        (now (patterns .entry)) (now (coefficients .entry)) (now (patterns .exit)) (now (coefficients .exit)) ⌝ }
 {
     let p = MOST_TERMS * a;
     let q = MOST_TERMS * b;
@@ -114,7 +115,8 @@ fn form_sum(
     coefficients: &mut [i64],
 ) -> Formed
     requires { ⌜ Ready i (now counts) (now patterns) (now coefficients) (sum a b) ⌝ }
-    ensures { λ r. ⌜ FormedAt i (nodeFormed (sumsAt i (now (counts .entry)) (now (patterns .entry)) (now (coefficients .entry))) (sum a b)) (formedOf r) (now (patterns .entry)) (now (coefficients .entry)) (now (patterns .exit)) (now (coefficients .exit)) ⌝ }
+    ensures { λ r. ⌜ FormedAt i (nodeFormed (sumsAt i (now (counts .entry)) (now (patterns .entry)) (now (coefficients .entry))) (sum a b)) (formedOf r)
+        (now (patterns .entry)) (now (coefficients .entry)) (now (patterns .exit)) (now (coefficients .exit)) ⌝ }
 {
     if counts[a] + counts[b] <= FEW_PLACES {
         let mut sp = [0u64; FEW_PLACES];
@@ -144,7 +146,8 @@ fn product_by(
     requires { ⌜ getD (now counts) a 0 ≤ length (now sc) ⌝ }
     requires { ⌜ getD (now counts) b 0 ≤ length (now tp) ⌝ }
     requires { ⌜ getD (now counts) b 0 ≤ length (now tc) ⌝ }
-    ensures { λ r. ⌜ FormedAt i (nodeFormed (sumsAt i (now (counts .entry)) (now (patterns .entry)) (now (coefficients .entry))) (product a b)) (formedOf r) (now (patterns .entry)) (now (coefficients .entry)) (now (patterns .exit)) (now (coefficients .exit)) ⌝ }
+    ensures { λ r. ⌜ FormedAt i (nodeFormed (sumsAt i (now (counts .entry)) (now (patterns .entry)) (now (coefficients .entry))) (product a b)) (formedOf r)
+        (now (patterns .entry)) (now (coefficients .entry)) (now (patterns .exit)) (now (coefficients .exit)) ⌝ }
 {
     let n = counts[a];
     let m = counts[b];
@@ -172,7 +175,8 @@ fn copied_product(
     coefficients: &mut [i64],
 ) -> Formed
     requires { ⌜ Ready i (now counts) (now patterns) (now coefficients) (product a b) ⌝ }
-    ensures { λ r. ⌜ FormedAt i (nodeFormed (sumsAt i (now (counts .entry)) (now (patterns .entry)) (now (coefficients .entry))) (product a b)) (formedOf r) (now (patterns .entry)) (now (coefficients .entry)) (now (patterns .exit)) (now (coefficients .exit)) ⌝ }
+    ensures { λ r. ⌜ FormedAt i (nodeFormed (sumsAt i (now (counts .entry)) (now (patterns .entry)) (now (coefficients .entry))) (product a b)) (formedOf r)
+        (now (patterns .entry)) (now (coefficients .entry)) (now (patterns .exit)) (now (coefficients .exit)) ⌝ }
 {
     if counts[a] <= FEW_TERMS {
         if counts[b] <= FEW_TERMS {
@@ -226,7 +230,8 @@ fn term_product_by(
     requires { ⌜ Ready i (now counts) (now patterns) (now coefficients) (product a b) ⌝ }
     requires { ⌜ getD (now counts) a 0 ≡ 1 ⌝ }
     requires { ⌜ RoomOf (getD (now counts) b 0) (now sp) (now sc) ⌝ }
-    ensures { λ r. ⌜ FormedAt i (nodeFormed (sumsAt i (now (counts .entry)) (now (patterns .entry)) (now (coefficients .entry))) (product a b)) (formedOf r) (now (patterns .entry)) (now (coefficients .entry)) (now (patterns .exit)) (now (coefficients .exit)) ⌝ }
+    ensures { λ r. ⌜ FormedAt i (nodeFormed (sumsAt i (now (counts .entry)) (now (patterns .entry)) (now (coefficients .entry))) (product a b)) (formedOf r)
+        (now (patterns .entry)) (now (coefficients .entry)) (now (patterns .exit)) (now (coefficients .exit)) ⌝ }
 {
     let p = MOST_TERMS * a;
     let q = MOST_TERMS * b;
@@ -258,7 +263,8 @@ fn term_product(
 ) -> Formed
     requires { ⌜ Ready i (now counts) (now patterns) (now coefficients) (product a b) ⌝ }
     requires { ⌜ getD (now counts) a 0 ≡ 1 ⌝ }
-    ensures { λ r. ⌜ FormedAt i (nodeFormed (sumsAt i (now (counts .entry)) (now (patterns .entry)) (now (coefficients .entry))) (product a b)) (formedOf r) (now (patterns .entry)) (now (coefficients .entry)) (now (patterns .exit)) (now (coefficients .exit)) ⌝ }
+    ensures { λ r. ⌜ FormedAt i (nodeFormed (sumsAt i (now (counts .entry)) (now (patterns .entry)) (now (coefficients .entry))) (product a b)) (formedOf r)
+        (now (patterns .entry)) (now (coefficients .entry)) (now (patterns .exit)) (now (coefficients .exit)) ⌝ }
 {
     if counts[b] <= FEW_PLACES {
         let mut sp = [0u64; FEW_PLACES];
@@ -280,7 +286,8 @@ fn form_product(
     coefficients: &mut [i64],
 ) -> Formed
     requires { ⌜ Ready i (now counts) (now patterns) (now coefficients) (product a b) ⌝ }
-    ensures { λ r. ⌜ FormedAt i (nodeFormed (sumsAt i (now (counts .entry)) (now (patterns .entry)) (now (coefficients .entry))) (product a b)) (formedOf r) (now (patterns .entry)) (now (coefficients .entry)) (now (patterns .exit)) (now (coefficients .exit)) ⌝ }
+    ensures { λ r. ⌜ FormedAt i (nodeFormed (sumsAt i (now (counts .entry)) (now (patterns .entry)) (now (coefficients .entry))) (product a b)) (formedOf r)
+        (now (patterns .entry)) (now (coefficients .entry)) (now (patterns .exit)) (now (coefficients .exit)) ⌝ }
 {
     if counts[a] == 1 {
         return term_product(a, b, i, counts, patterns, coefficients);
@@ -305,7 +312,8 @@ fn power_by(
     requires { ⌜ Ready i (now counts) (now patterns) (now coefficients) (power a e) ⌝ }
     requires { ⌜ getD (now counts) a 0 ≤ length (now sp) ⌝ }
     requires { ⌜ getD (now counts) a 0 ≤ length (now sc) ⌝ }
-    ensures { λ r. ⌜ FormedAt i (nodeFormed (sumsAt i (now (counts .entry)) (now (patterns .entry)) (now (coefficients .entry))) (power a e)) (formedOf r) (now (patterns .entry)) (now (coefficients .entry)) (now (patterns .exit)) (now (coefficients .exit)) ⌝ }
+    ensures { λ r. ⌜ FormedAt i (nodeFormed (sumsAt i (now (counts .entry)) (now (patterns .entry)) (now (coefficients .entry))) (power a e)) (formedOf r)
+        (now (patterns .entry)) (now (coefficients .entry)) (now (patterns .exit)) (now (coefficients .exit)) ⌝ }
 {
     let n = counts[a];
     copy_operand(a, n, patterns, coefficients, sp, sc);
@@ -330,7 +338,8 @@ fn form_power(
     coefficients: &mut [i64],
 ) -> Formed
     requires { ⌜ Ready i (now counts) (now patterns) (now coefficients) (power a e) ⌝ }
-    ensures { λ r. ⌜ FormedAt i (nodeFormed (sumsAt i (now (counts .entry)) (now (patterns .entry)) (now (coefficients .entry))) (power a e)) (formedOf r) (now (patterns .entry)) (now (coefficients .entry)) (now (patterns .exit)) (now (coefficients .exit)) ⌝ }
+    ensures { λ r. ⌜ FormedAt i (nodeFormed (sumsAt i (now (counts .entry)) (now (patterns .entry)) (now (coefficients .entry))) (power a e)) (formedOf r)
+        (now (patterns .entry)) (now (coefficients .entry)) (now (patterns .exit)) (now (coefficients .exit)) ⌝ }
 {
     if counts[a] <= FEW_TERMS {
         let mut sp = [0u64; FEW_TERMS];
@@ -352,7 +361,8 @@ pub fn form(
     coefficients: &mut [i64],
 ) -> Formed
     requires { ⌜ Ready i (now counts) (now patterns) (now coefficients) (kindOf kind) ⌝ }
-    ensures { λ r. ⌜ FormedAt i (nodeFormed (sumsAt i (now (counts .entry)) (now (patterns .entry)) (now (coefficients .entry))) (kindOf kind)) (formedOf r) (now (patterns .entry)) (now (coefficients .entry)) (now (patterns .exit)) (now (coefficients .exit)) ⌝ }
+    ensures { λ r. ⌜ FormedAt i (nodeFormed (sumsAt i (now (counts .entry)) (now (patterns .entry)) (now (coefficients .entry))) (kindOf kind)) (formedOf r)
+        (now (patterns .entry)) (now (coefficients .entry)) (now (patterns .exit)) (now (coefficients .exit)) ⌝ }
 {
     let start = MOST_TERMS * i;
     let end = start + MOST_TERMS;

@@ -28,7 +28,8 @@ fn copy_terms(
 ) -> usize
     requires { ⌜ count ≤ length (now patterns) ⌝ }
     requires { ⌜ count ≤ length (now coefficients) ⌝ }
-    ensures { λ r. ⌜ Copies count (now (bytes .entry)) at r (now (patterns .entry)) (now (coefficients .entry)) (now (patterns .exit)) (now (coefficients .exit)) ⌝ }
+    ensures { λ r. ⌜ Copies count (now (bytes .entry)) at r (now (patterns .entry)) (now (coefficients .entry)) (now (patterns .exit))
+        (now (coefficients .exit)) ⌝ }
 {
     let mut place = at;
     let mut k = 0;
@@ -98,7 +99,8 @@ pub(crate) fn take_good(
 ) -> usize
     requires { ⌜ count ≤ length (now patterns) ⌝ }
     requires { ⌜ count ≤ length (now coefficients) ⌝ }
-    ensures { λ r. ⌜ Takes count (now (bytes .entry)) at r (now (patterns .entry)) (now (coefficients .entry)) (now (patterns .exit)) (now (coefficients .exit)) ⌝ }
+    ensures { λ r. ⌜ Takes count (now (bytes .entry)) at r (now (patterns .entry)) (now (coefficients .entry)) (now (patterns .exit))
+        (now (coefficients .exit)) ⌝ }
 {
     let end = copy_terms(bytes, at, count, patterns, coefficients);
     if good_terms(patterns, coefficients, count) < count {
@@ -117,7 +119,8 @@ pub(crate) fn take(
 ) -> Read
     requires { ⌜ count ≤ length (now patterns) ⌝ }
     requires { ⌜ count ≤ length (now coefficients) ⌝ }
-    ensures { λ r. ⌜ (itemOf r, now (patterns .exit), now (coefficients .exit)) ≡ takenInto count (readTerms variables count [] (now (bytes .entry)) at) (now (patterns .entry)) (now (coefficients .entry)) ⌝ }
+    ensures { λ r. ⌜ (itemOf r, now (patterns .exit), now (coefficients .exit))
+        ≡ takenInto count (readTerms variables count [] (now (bytes .entry)) at) (now (patterns .entry)) (now (coefficients .entry)) ⌝ }
 {
     let end = take_good(bytes, at, count, patterns, coefficients);
     if end == 0 {

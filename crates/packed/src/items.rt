@@ -94,7 +94,8 @@ fn take_terms(
     requires { ⌜ count ≤ length (now patterns) ⌝ }
     requires { ⌜ count ≤ length (now coefficients) ⌝ }
     ensures { λ r. ⌜ itemOf r ≡ mapped length (readTerms powers count [] (now (bytes .entry)) at) ⌝ }
-    ensures { λ r. ⌜ Holds count (readTerms powers count [] (now (bytes .entry)) at) (now (patterns .entry)) (now (coefficients .entry)) (now (patterns .exit)) (now (coefficients .exit)) ⌝ }
+    ensures { λ r. ⌜ Holds count (readTerms powers count [] (now (bytes .entry)) at) (now (patterns .entry)) (now (coefficients .entry)) (now (patterns .exit))
+        (now (coefficients .exit)) ⌝ }
 {
     let mut place = at;
     let mut weight: u64 = 0;
@@ -134,7 +135,8 @@ pub(crate) fn take_each(
 ) -> Read
     requires { ⌜ count ≤ length (now patterns) ⌝ }
     requires { ⌜ count ≤ length (now coefficients) ⌝ }
-    ensures { λ r. ⌜ (itemOf r, now (patterns .exit), now (coefficients .exit)) ≡ takenInto count (readTerms variables count [] (now (bytes .entry)) at) (now (patterns .entry)) (now (coefficients .entry)) ⌝ }
+    ensures { λ r. ⌜ (itemOf r, now (patterns .exit), now (coefficients .exit))
+        ≡ takenInto count (readTerms variables count [] (now (bytes .entry)) at) (now (patterns .entry)) (now (coefficients .entry)) ⌝ }
 {
     let item = take_terms(bytes, at, Pattern::VARIABLES, count, patterns, coefficients);
     let Read::Value(_, _) = item else {

@@ -53,7 +53,8 @@ pub fn read_count(bytes: &[u8], at: usize) -> Read
 pub fn read_sum(bytes: &[u8], at: usize, patterns: &mut [u64], coefficients: &mut [i64]) -> Read
     requires { ⌜ mostTerms ≤ length (now patterns) ⌝ }
     requires { ⌜ mostTerms ≤ length (now coefficients) ⌝ }
-    ensures { λ r. ⌜ (itemOf r, now (patterns .exit), now (coefficients .exit)) ≡ readInto (readSum variables (now (bytes .entry)) at) (now (patterns .entry)) (now (coefficients .entry)) ⌝ }
+    ensures { λ r. ⌜ (itemOf r, now (patterns .exit), now (coefficients .exit))
+        ≡ readInto (readSum variables (now (bytes .entry)) at) (now (patterns .entry)) (now (coefficients .entry)) ⌝ }
 {
     let first = read_count(bytes, at);
     let Read::Value(count, next) = first else {
@@ -93,7 +94,8 @@ pub fn take_whole(
 ) -> Answer
     requires { ⌜ count ≤ length (now patterns) ⌝ }
     requires { ⌜ count ≤ length (now coefficients) ⌝ }
-    ensures { λ r. ⌜ outcome (told r) (now (patterns .exit), now (coefficients .exit)) ≡ wholeInto count (judged SUM (readRest variables count (now (bytes .entry)) at)) (now (patterns .entry)) (now (coefficients .entry)) ⌝ }
+    ensures { λ r. ⌜ outcome (told r) (now (patterns .exit), now (coefficients .exit))
+        ≡ wholeInto count (judged SUM (readRest variables count (now (bytes .entry)) at)) (now (patterns .entry)) (now (coefficients .entry)) ⌝ }
 {
     let good = fast::take_good(bytes, at, count, patterns, coefficients);
     if good > 0 {
@@ -129,7 +131,8 @@ fn unpack_terms(
     requires { ⌜ count ≤ length (now «own_coefficients») ⌝ }
     requires { ⌜ count ≤ length (now patterns) ⌝ }
     requires { ⌜ count ≤ length (now coefficients) ⌝ }
-    ensures { λ r. ⌜ outcome (told r) (now (patterns .exit), now (coefficients .exit)) ≡ heldInto (judged SUM (readRest variables count (now (bytes .entry)) at)) (now (patterns .entry)) (now (coefficients .entry)) ⌝ }
+    ensures { λ r. ⌜ outcome (told r) (now (patterns .exit), now (coefficients .exit))
+        ≡ heldInto (judged SUM (readRest variables count (now (bytes .entry)) at)) (now (patterns .entry)) (now (coefficients .entry)) ⌝ }
 {
     let taken = take_whole(bytes, at, count, own_patterns, own_coefficients);
     let Answer::Done(_) = taken else {
@@ -142,7 +145,8 @@ fn unpack_terms(
 
 // Few terms go through small arrays: to clear large ones would take longer than to read the terms.
 pub fn unpack(bytes: &[u8], patterns: &mut [u64], coefficients: &mut [i64]) -> Answer
-    ensures { λ r. ⌜ outcome (told r) (now (patterns .exit), now (coefficients .exit)) ≡ unpack (now (bytes .entry)) (now (patterns .entry)) (now (coefficients .entry)) ⌝ }
+    ensures { λ r. ⌜ outcome (told r) (now (patterns .exit), now (coefficients .exit))
+        ≡ unpack (now (bytes .entry)) (now (patterns .entry)) (now (coefficients .entry)) ⌝ }
 {
     if patterns.len() < MOST_TERMS {
         return Answer::Refused(Refusal::Room, 0);

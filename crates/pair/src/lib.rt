@@ -22,7 +22,9 @@ pub struct Measured {
 // Asks that the variable's number is below 8, and both sums are held sums.
 pub fn measure(v: u64, sp: &[u64], sc: &[i64], fp: &[u64], fc: &[i64]) -> Measured
     requires { ⌜ CanPut v (now sp) (now sc) (now fp) (now fc) ⌝ }
-    ensures { λ r. ⌜ (r .degree ≡ pairDegree v (terms (now (sp .entry)) (now (sc .entry))) (terms (now (fp .entry)) (now (fc .entry)))) × (r .weight ≡ capped (pairWeight v (terms (now (sp .entry)) (now (sc .entry))) (terms (now (fp .entry)) (now (fc .entry))))) × (r .power ≡ largestPower v (terms (now (fp .entry)) (now (fc .entry)))) ⌝ }
+    ensures { λ r. ⌜ (r .degree ≡ pairDegree v (terms (now (sp .entry)) (now (sc .entry))) (terms (now (fp .entry)) (now (fc .entry)))) ×
+        (r .weight ≡ capped (pairWeight v (terms (now (sp .entry)) (now (sc .entry))) (terms (now (fp .entry)) (now (fc .entry))))) ×
+        (r .power ≡ largestPower v (terms (now (fp .entry)) (now (fc .entry)))) ⌝ }
 {
     let size = sums::size_of(sp, sc);
     let put_degree = size.degree;

@@ -73,7 +73,9 @@ fn add_straight(
     tc: &[i64],
 ) -> Formed
     requires { ⌜ CanAddPairs (now gr) (now gc) n (now sr) (now sc) (now tr) (now tc) ⌝ }
-    ensures { λ r. ⌜ Added (withRow (pairs (terms (wordsAt (now (sr .entry))) (now (sc .entry))) (terms (wordsAt (now (tr .entry))) (now (tc .entry)))) (firstTerms n (wordsAt (now (gr .entry))) (now (gc .entry)))) (formedOf r) (wordsAt (now (gr .exit))) (now (gc .exit)) ⌝ }
+    ensures { λ r. ⌜ Added
+        (withRow (pairs (terms (wordsAt (now (sr .entry))) (now (sc .entry))) (terms (wordsAt (now (tr .entry))) (now (tc .entry))))
+        (firstTerms n (wordsAt (now (gr .entry))) (now (gc .entry)))) (formedOf r) (wordsAt (now (gr .exit))) (now (gc .exit)) ⌝ }
 {
     let m = sr.len();
     let w = tr.len();
@@ -95,7 +97,9 @@ fn add_apart(
     tc: &[i64],
 ) -> Formed
     requires { ⌜ CanAddPairs (now gr) (now gc) n (now sr) (now sc) (now tr) (now tc) ⌝ }
-    ensures { λ r. ⌜ Added (withRow (pairs (terms (wordsAt (now (sr .entry))) (now (sc .entry))) (terms (wordsAt (now (tr .entry))) (now (tc .entry)))) (firstTerms n (wordsAt (now (gr .entry))) (now (gc .entry)))) (formedOf r) (wordsAt (now (gr .exit))) (now (gc .exit)) ⌝ }
+    ensures { λ r. ⌜ Added
+        (withRow (pairs (terms (wordsAt (now (sr .entry))) (now (sc .entry))) (terms (wordsAt (now (tr .entry))) (now (tc .entry))))
+        (firstTerms n (wordsAt (now (gr .entry))) (now (gc .entry)))) (formedOf r) (wordsAt (now (gr .exit))) (now (gc .exit)) ⌝ }
 {
     if sr.len() < 2 || tr.len() < 2 {
         return add_straight(gr, gc, n, sr, sc, tr, tc);
@@ -129,7 +133,9 @@ fn add_rows(
     requires { ⌜ CanAddRows v k (now fp) (now fc) (now wp) (now wc) (wordsAt (now gr)) (now gc) n ⌝ }
     requires { ⌜ Room (now pr) (now pc) ⌝ }
     requires { ⌜ mostTerms ≤ length (now wr) ⌝ }
-    ensures { λ r. ⌜ Added (withRow (rowsAt v k (terms (now (wp .entry)) (now (wc .entry))) (terms (now (fp .entry)) (now (fc .entry)))) (firstTerms n (wordsAt (now (gr .entry))) (now (gc .entry)))) (formedOf r) (wordsAt (now (gr .exit))) (now (gc .exit)) ⌝ }
+    ensures { λ r. ⌜ Added
+        (withRow (rowsAt v k (terms (now (wp .entry)) (now (wc .entry))) (terms (now (fp .entry)) (now (fc .entry))))
+        (firstTerms n (wordsAt (now (gr .entry))) (now (gc .entry)))) (formedOf r) (wordsAt (now (gr .exit))) (now (gc .exit)) ⌝ }
 {
     let m = take_part(v, k, fp, fc, pr, pc);
     if m == 0 {
@@ -154,7 +160,9 @@ fn raise(
     requires { ⌜ Factors (take n (now wp)) (take n (now wc)) (now sp) (now sc) ⌝ }
     requires { ⌜ Room (now wp) (now wc) ⌝ }
     requires { ⌜ Room (now patterns) (now coefficients) ⌝ }
-    ensures { λ r. ⌜ (formedOf r, now (wp .exit), now (wc .exit)) ≡ formedInto (productOf (firstTerms n (now (wp .entry)) (now (wc .entry))) (terms (now (sp .entry)) (now (sc .entry)))) (now (wp .entry)) (now (wc .entry)) ⌝ }
+    ensures { λ r. ⌜ (formedOf r, now (wp .exit), now (wc .exit))
+        ≡ formedInto (productOf (firstTerms n (now (wp .entry)) (now (wc .entry))) (terms (now (sp .entry)) (now (sc .entry)))) (now (wp .entry))
+        (now (wc .entry)) ⌝ }
 {
     let formed = sums::product(&wp[0..n], &wc[0..n], sp, sc, patterns, coefficients);
     let Formed::Terms(count) = formed else {
@@ -182,7 +190,9 @@ pub fn put(
     requires { ⌜ Allowed v (now sp) (now sc) (now fp) (now fc) ⌝ }
     requires { ⌜ largest ≡ largestPower v (terms (now fp) (now fc)) ⌝ }
     requires { ⌜ Room (now patterns) (now coefficients) ⌝ }
-    ensures { λ r. ⌜ (formedOf r, now (patterns .exit), now (coefficients .exit)) ≡ formedInto (pairOf v (terms (now (sp .entry)) (now (sc .entry))) (terms (now (fp .entry)) (now (fc .entry)))) (now (patterns .entry)) (now (coefficients .entry)) ⌝ }
+    ensures { λ r. ⌜ (formedOf r, now (patterns .exit), now (coefficients .exit))
+        ≡ formedInto (pairOf v (terms (now (sp .entry)) (now (sc .entry))) (terms (now (fp .entry)) (now (fc .entry)))) (now (patterns .entry))
+        (now (coefficients .entry)) ⌝ }
 {
     let mut gr = [0u64; MOST_PLACES];
     let mut gc = [0i64; MOST_PLACES];

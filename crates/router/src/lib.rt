@@ -48,7 +48,9 @@ fn estimate_terms(
 ) -> Answer
     requires { ⌜ length (now coefficients) ≡ length (now patterns) ⌝ }
     requires { ⌜ answerBytes ≤ length (now answer) ⌝ }
-    ensures { λ r. ⌜ outcome (told r) (now (answer .exit)) ≡ answerInto (judgeTerms (terms (now (patterns .entry)) (now (coefficients .entry))) (now (readings .entry)) (now (tolerances .entry))) (now (answer .entry)) ⌝ }
+    ensures { λ r. ⌜ outcome (told r) (now (answer .exit))
+        ≡ answerInto (judgeTerms (terms (now (patterns .entry)) (now (coefficients .entry))) (now (readings .entry)) (now (tolerances .entry)))
+        (now (answer .entry)) ⌝ }
 {
     if readings.len() != READING_BYTES {
         return Answer::Refused(Refusal::Reading, 0);
@@ -74,7 +76,8 @@ fn estimate_terms(
 
 // The estimate of a packed sum at the readings, and its margin. Few terms go through small arrays, as in unpacking.
 pub fn estimate(sum: &[u8], readings: &[u8], tolerances: &[u8], answer: &mut [u8]) -> Answer
-    ensures { λ r. ⌜ outcome (told r) (now (answer .exit)) ≡ estimate (now (sum .entry)) (now (readings .entry)) (now (tolerances .entry)) (now (answer .entry)) ⌝ }
+    ensures { λ r. ⌜ outcome (told r) (now (answer .exit))
+        ≡ estimate (now (sum .entry)) (now (readings .entry)) (now (tolerances .entry)) (now (answer .entry)) ⌝ }
 {
     if answer.len() < ANSWER_BYTES {
         return Answer::Refused(Refusal::Room, 0);
@@ -116,7 +119,8 @@ pub extern "C" fn reeveboom_estimate(
     tolerances: &[u8],
     answer: &mut [u8],
 ) -> u64
-    ensures { λ r. ⌜ (r, now (answer .exit)) ≡ hosted narrowUnit (estimate (now (sum .entry)) (now (readings .entry)) (now (tolerances .entry)) (now (answer .entry))) ⌝ }
+    ensures { λ r. ⌜ (r, now (answer .exit))
+        ≡ hosted narrowUnit (estimate (now (sum .entry)) (now (readings .entry)) (now (tolerances .entry)) (now (answer .entry))) ⌝ }
 {
     estimate(sum, readings, tolerances, answer).for_host(HOST_UNIT)
 }

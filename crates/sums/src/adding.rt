@@ -84,7 +84,9 @@ pub(crate) fn merge(
     requires { ⌜ Addends (now sp) (now sc) (now tp) (now tc) ⌝ }
     requires { ⌜ sumSpread (terms (now sp) (now sc)) (terms (now tp) (now tc)) ≤ length (now patterns) ⌝ }
     requires { ⌜ sumSpread (terms (now sp) (now sc)) (terms (now tp) (now tc)) ≤ length (now coefficients) ⌝ }
-    ensures { λ r. ⌜ (formed r, now (patterns .exit), now (coefficients .exit)) ≡ formedInto (formed (terms (now (sp .entry)) (now (sc .entry)) ⊕ terms (now (tp .entry)) (now (tc .entry)))) (now (patterns .entry)) (now (coefficients .entry)) ⌝ }
+    ensures { λ r. ⌜ (formed r, now (patterns .exit), now (coefficients .exit))
+        ≡ formedInto (formed (terms (now (sp .entry)) (now (sc .entry)) ⊕ terms (now (tp .entry)) (now (tc .entry)))) (now (patterns .entry))
+        (now (coefficients .entry)) ⌝ }
 {
     let all = sp.len() + tp.len();
     let mut x = 0;

@@ -88,7 +88,8 @@ pub(crate) fn raise(
     requires { ⌜ length (now sp) ≡ 2 ⌝ }
     requires { ⌜ 1 ≤ e ⌝ }
     requires { ⌜ Room (now patterns) (now coefficients) ⌝ }
-    ensures { λ r. ⌜ (formed (e + 1), now (patterns .exit), now (coefficients .exit)) ≡ formedInto (powerOf (terms (now (sp .entry)) (now (sc .entry))) e) (now (patterns .entry)) (now (coefficients .entry)) ⌝ }
+    ensures { λ r. ⌜ (formed (e + 1), now (patterns .exit), now (coefficients .exit))
+        ≡ formedInto (powerOf (terms (now (sp .entry)) (now (sc .entry))) e) (now (patterns .entry)) (now (coefficients .entry)) ⌝ }
 {
     let x = sc[0];
     let y = sc[1];

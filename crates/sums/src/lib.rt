@@ -73,7 +73,8 @@ pub fn size_of(sp: &[u64], sc: &[i64]) -> Size
 // Asks that both areas have 128 places.
 pub fn integer(n: i64, patterns: &mut [u64], coefficients: &mut [i64]) -> Formed
     requires { ⌜ Room (now patterns) (now coefficients) ⌝ }
-    ensures { λ r. ⌜ (formedOf r, now (patterns .exit), now (coefficients .exit)) ≡ formedInto (formed (integer variables n)) (now (patterns .entry)) (now (coefficients .entry)) ⌝ }
+    ensures { λ r. ⌜ (formedOf r, now (patterns .exit), now (coefficients .exit))
+        ≡ formedInto (formed (integer variables n)) (now (patterns .entry)) (now (coefficients .entry)) ⌝ }
 {
     if n == 0 {
         return Formed::Terms(0);
@@ -88,7 +89,8 @@ pub fn integer(n: i64, patterns: &mut [u64], coefficients: &mut [i64]) -> Formed
 pub fn variable(v: u64, patterns: &mut [u64], coefficients: &mut [i64]) -> Formed
     requires { ⌜ v < variables ⌝ }
     requires { ⌜ Room (now patterns) (now coefficients) ⌝ }
-    ensures { λ r. ⌜ (formedOf r, now (patterns .exit), now (coefficients .exit)) ≡ formedInto (formed (variable variables v)) (now (patterns .entry)) (now (coefficients .entry)) ⌝ }
+    ensures { λ r. ⌜ (formedOf r, now (patterns .exit), now (coefficients .exit))
+        ≡ formedInto (formed (variable variables v)) (now (patterns .entry)) (now (coefficients .entry)) ⌝ }
 {
     let pattern = Pattern::power(v, 1);
     patterns[0] = pattern.0;
@@ -111,7 +113,9 @@ pub fn sum(
 ) -> Formed
     requires { ⌜ Addends (now sp) (now sc) (now tp) (now tc) ⌝ }
     requires { ⌜ RoomOf (length (now sp) + length (now tp)) (now patterns) (now coefficients) ⌝ }
-    ensures { λ r. ⌜ (formedOf r, now (patterns .exit), now (coefficients .exit)) ≡ formedInto (sumOf (terms (now (sp .entry)) (now (sc .entry))) (terms (now (tp .entry)) (now (tc .entry)))) (now (patterns .entry)) (now (coefficients .entry)) ⌝ }
+    ensures { λ r. ⌜ (formedOf r, now (patterns .exit), now (coefficients .exit))
+        ≡ formedInto (sumOf (terms (now (sp .entry)) (now (sc .entry))) (terms (now (tp .entry)) (now (tc .entry)))) (now (patterns .entry))
+        (now (coefficients .entry)) ⌝ }
 {
     if !adding::fits(sp, sc, tp, tc) {
         return Formed::Over;
@@ -135,7 +139,9 @@ pub fn multiply_by_term(
 ) -> Formed
     requires { ⌜ HasTerm word c (now tp) (now tc) ⌝ }
     requires { ⌜ RoomOf (length (now tp)) (now patterns) (now coefficients) ⌝ }
-    ensures { λ r. ⌜ (formedOf r, now (patterns .exit), now (coefficients .exit)) ≡ formedInto (formed (dropZeros (row (term c (exponents word)) (terms (now (tp .entry)) (now (tc .entry)))))) (now (patterns .entry)) (now (coefficients .entry)) ⌝ }
+    ensures { λ r. ⌜ (formedOf r, now (patterns .exit), now (coefficients .exit))
+        ≡ formedInto (formed (dropZeros (row (term c (exponents word)) (terms (now (tp .entry)) (now (tc .entry)))))) (now (patterns .entry))
+        (now (coefficients .entry)) ⌝ }
 {
     let n = tp.len();
     let mut count = 0;
@@ -175,7 +181,9 @@ fn multiply_in(
     requires { ⌜ length (now sp) ≤ length (now sr) ⌝ }
     requires { ⌜ length (now tp) ≤ length (now tr) ⌝ }
     requires { ⌜ Room (now patterns) (now coefficients) ⌝ }
-    ensures { λ r. ⌜ (formedOf r, now (patterns .exit), now (coefficients .exit)) ≡ formedInto (productOf (terms (now (sp .entry)) (now (sc .entry))) (terms (now (tp .entry)) (now (tc .entry)))) (now (patterns .entry)) (now (coefficients .entry)) ⌝ }
+    ensures { λ r. ⌜ (formedOf r, now (patterns .exit), now (coefficients .exit))
+        ≡ formedInto (productOf (terms (now (sp .entry)) (now (sc .entry))) (terms (now (tp .entry)) (now (tc .entry)))) (now (patterns .entry))
+        (now (coefficients .entry)) ⌝ }
 {
     let m = sp.len();
     let n = tp.len();
@@ -200,7 +208,9 @@ fn multiply(
     requires { ⌜ Factors (now sp) (now sc) (now tp) (now tc) ⌝ }
     requires { ⌜ length (now sp) ≤ length (now tp) ⌝ }
     requires { ⌜ Room (now patterns) (now coefficients) ⌝ }
-    ensures { λ r. ⌜ (formedOf r, now (patterns .exit), now (coefficients .exit)) ≡ formedInto (productOf (terms (now (sp .entry)) (now (sc .entry))) (terms (now (tp .entry)) (now (tc .entry)))) (now (patterns .entry)) (now (coefficients .entry)) ⌝ }
+    ensures { λ r. ⌜ (formedOf r, now (patterns .exit), now (coefficients .exit))
+        ≡ formedInto (productOf (terms (now (sp .entry)) (now (sc .entry))) (terms (now (tp .entry)) (now (tc .entry)))) (now (patterns .entry))
+        (now (coefficients .entry)) ⌝ }
 {
     if sp.len() == 1 {
         let c = sc[0];
@@ -254,7 +264,9 @@ pub fn product(
 ) -> Formed
     requires { ⌜ Factors (now sp) (now sc) (now tp) (now tc) ⌝ }
     requires { ⌜ Room (now patterns) (now coefficients) ⌝ }
-    ensures { λ r. ⌜ (formedOf r, now (patterns .exit), now (coefficients .exit)) ≡ formedInto (productOf (terms (now (sp .entry)) (now (sc .entry))) (terms (now (tp .entry)) (now (tc .entry)))) (now (patterns .entry)) (now (coefficients .entry)) ⌝ }
+    ensures { λ r. ⌜ (formedOf r, now (patterns .exit), now (coefficients .exit))
+        ≡ formedInto (productOf (terms (now (sp .entry)) (now (sc .entry))) (terms (now (tp .entry)) (now (tc .entry)))) (now (patterns .entry))
+        (now (coefficients .entry)) ⌝ }
 {
     if tp.len() < sp.len() {
         return multiply(tp, tc, sp, sc, patterns, coefficients);
@@ -274,7 +286,8 @@ fn repeated(
     requires { ⌜ Base (now sp) (now sc) e ⌝ }
     requires { ⌜ 0 < e ⌝ }
     requires { ⌜ Room (now patterns) (now coefficients) ⌝ }
-    ensures { λ r. ⌜ (formedOf r, now (patterns .exit), now (coefficients .exit)) ≡ formedInto (powerOf (terms (now (sp .entry)) (now (sc .entry))) e) (now (patterns .entry)) (now (coefficients .entry)) ⌝ }
+    ensures { λ r. ⌜ (formedOf r, now (patterns .exit), now (coefficients .exit))
+        ≡ formedInto (powerOf (terms (now (sp .entry)) (now (sc .entry))) e) (now (patterns .entry)) (now (coefficients .entry)) ⌝ }
 {
     let mut gr = [0u64; MOST_PLACES];
     let mut gc = [0i64; MOST_PLACES];
@@ -325,7 +338,8 @@ pub fn power(
 ) -> Formed
     requires { ⌜ Base (now sp) (now sc) e ⌝ }
     requires { ⌜ Room (now patterns) (now coefficients) ⌝ }
-    ensures { λ r. ⌜ (formedOf r, now (patterns .exit), now (coefficients .exit)) ≡ formedInto (powerOf (terms (now (sp .entry)) (now (sc .entry))) e) (now (patterns .entry)) (now (coefficients .entry)) ⌝ }
+    ensures { λ r. ⌜ (formedOf r, now (patterns .exit), now (coefficients .exit))
+        ≡ formedInto (powerOf (terms (now (sp .entry)) (now (sc .entry))) e) (now (patterns .entry)) (now (coefficients .entry)) ⌝ }
 {
     if e == 0 {
         return integer(1, patterns, coefficients);

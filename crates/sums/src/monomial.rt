@@ -12,7 +12,8 @@ pub(crate) fn raise(sp: &[u64], sc: &[i64], e: u64, patterns: &mut [u64], coeffi
     requires { ⌜ length (now sp) ≡ 1 ⌝ }
     requires { ⌜ 1 ≤ e ⌝ }
     requires { ⌜ Room (now patterns) (now coefficients) ⌝ }
-    ensures { λ r. ⌜ (formed 1, now (patterns .exit), now (coefficients .exit)) ≡ formedInto (powerOf (terms (now (sp .entry)) (now (sc .entry))) e) (now (patterns .entry)) (now (coefficients .entry)) ⌝ }
+    ensures { λ r. ⌜ (formed 1, now (patterns .exit), now (coefficients .exit))
+        ≡ formedInto (powerOf (terms (now (sp .entry)) (now (sc .entry))) e) (now (patterns .entry)) (now (coefficients .entry)) ⌝ }
 {
     let c = sc[0];
     let mut power = c;

@@ -79,7 +79,8 @@ fn merge(
     tc: &[i64],
 ) -> Gap
     requires { ⌜ CanMerge (wordsAt (now ranks)) (now coefficients) n (wordAt rank) c (wordsAt (now tr)) (now tc) ⌝ }
-    ensures { λ r. ⌜ Gapped (joined c (wordAt rank) (wordsAt (now (tr .entry))) (now (tc .entry)) n (wordsAt (now (ranks .entry))) (now (coefficients .entry))) (wordsAt (now (ranks .exit))) (now (coefficients .exit)) (r .from) (r .to) (n + length (now (tr .entry))) ⌝ }
+    ensures { λ r. ⌜ Gapped (joined c (wordAt rank) (wordsAt (now (tr .entry))) (now (tc .entry)) n (wordsAt (now (ranks .entry))) (now (coefficients .entry)))
+        (wordsAt (now (ranks .exit))) (now (coefficients .exit)) (r .from) (r .to) (n + length (now (tr .entry))) ⌝ }
 {
     let mut i = n;
     let mut j = tr.len();
@@ -150,7 +151,8 @@ fn merge_row(
     tc: &[i64],
 ) -> usize
     requires { ⌜ CanMerge (wordsAt (now ranks)) (now coefficients) n (wordAt rank) c (wordsAt (now tr)) (now tc) ⌝ }
-    ensures { λ r. ⌜ Stands (joined c (wordAt rank) (wordsAt (now (tr .entry))) (now (tc .entry)) n (wordsAt (now (ranks .entry))) (now (coefficients .entry))) r (wordsAt (now (ranks .exit))) (now (coefficients .exit)) ⌝ }
+    ensures { λ r. ⌜ Stands (joined c (wordAt rank) (wordsAt (now (tr .entry))) (now (tc .entry)) n (wordsAt (now (ranks .entry))) (now (coefficients .entry)))
+        r (wordsAt (now (ranks .exit))) (now (coefficients .exit)) ⌝ }
 {
     let end = n + tr.len();
     let gap = merge(ranks, coefficients, n, rank, c, tr, tc);
@@ -227,7 +229,9 @@ pub(crate) fn add_pairs(
     tc: &[i64],
 ) -> Formed
     requires { ⌜ CanAdd (wordsAt (now ranks)) (now coefficients) n (wordsAt (now sr)) (now sc) (wordsAt (now tr)) (now tc) ⌝ }
-    ensures { λ r. ⌜ Added (withRow (pairs (terms (wordsAt (now (sr .entry))) (now (sc .entry))) (terms (wordsAt (now (tr .entry))) (now (tc .entry)))) (firstTerms n (wordsAt (now (ranks .entry))) (now (coefficients .entry)))) (formedOf r) (wordsAt (now (ranks .exit))) (now (coefficients .exit)) ⌝ }
+    ensures { λ r. ⌜ Added
+        (withRow (pairs (terms (wordsAt (now (sr .entry))) (now (sc .entry))) (terms (wordsAt (now (tr .entry))) (now (tc .entry))))
+        (firstTerms n (wordsAt (now (ranks .entry))) (now (coefficients .entry)))) (formedOf r) (wordsAt (now (ranks .exit))) (now (coefficients .exit)) ⌝ }
 {
     let mut all = n;
     let mut k = 0;
@@ -254,7 +258,10 @@ pub fn add_product(
     tc: &[i64],
 ) -> Formed
     requires { ⌜ CanAdd (wordsAt (now ranks)) (now coefficients) n (wordsAt (now sr)) (now sc) (wordsAt (now tr)) (now tc) ⌝ }
-    ensures { λ r. ⌜ (formedOf r, now (ranks .exit), now (coefficients .exit)) ≡ rankedInto (withRow (pairs (terms (wordsAt (now (sr .entry))) (now (sc .entry))) (terms (wordsAt (now (tr .entry))) (now (tc .entry)))) (firstTerms n (wordsAt (now (ranks .entry))) (now (coefficients .entry)))) (cleared 0 (length (now (ranks .entry))) (now (ranks .entry))) (cleared (pos 0) (length (now (coefficients .entry))) (now (coefficients .entry))) ⌝ }
+    ensures { λ r. ⌜ (formedOf r, now (ranks .exit), now (coefficients .exit))
+        ≡ rankedInto (withRow (pairs (terms (wordsAt (now (sr .entry))) (now (sc .entry))) (terms (wordsAt (now (tr .entry))) (now (tc .entry))))
+        (firstTerms n (wordsAt (now (ranks .entry))) (now (coefficients .entry)))) (cleared 0 (length (now (ranks .entry))) (now (ranks .entry)))
+        (cleared (pos 0) (length (now (coefficients .entry))) (now (coefficients .entry))) ⌝ }
 {
     let formed = add_pairs(ranks, coefficients, n, sr, sc, tr, tc);
     let all = match formed {
@@ -276,7 +283,8 @@ pub fn add_product(
 pub fn finish(sr: &[u64], sc: &[i64], patterns: &mut [u64], coefficients: &mut [i64]) -> Formed
     requires { ⌜ Held (wordsAt (now sr)) (now sc) ⌝ }
     requires { ⌜ Room (now patterns) (now coefficients) ⌝ }
-    ensures { λ r. ⌜ (formedOf r, now (patterns .exit), now (coefficients .exit)) ≡ formedInto (formed (dropZeros (terms (wordsAt (now (sr .entry))) (now (sc .entry))))) (now (patterns .entry)) (now (coefficients .entry)) ⌝ }
+    ensures { λ r. ⌜ (formedOf r, now (patterns .exit), now (coefficients .exit))
+        ≡ formedInto (formed (dropZeros (terms (wordsAt (now (sr .entry))) (now (sc .entry))))) (now (patterns .entry)) (now (coefficients .entry)) ⌝ }
 {
     let n = sr.len();
     let mut count = 0;

@@ -31,7 +31,8 @@ pub(crate) fn read_sum(
     nodes: usize,
 ) -> Read
     requires { ⌜ Ready (now text) at nodes ⌝ }
-    ensures { λ r. ⌜ Reads (readSum (inBrackets levels (now (text .entry))) (now (text .entry)) at) (now (text .entry)) at nodes (now (table .entry)) r (now (table .exit)) ⌝ }
+    ensures { λ r. ⌜ Reads (readSum (inBrackets levels (now (text .entry))) (now (text .entry)) at) (now (text .entry)) at nodes (now (table .entry)) r
+        (now (table .exit)) ⌝ }
 {
     let first = read_term(text, bytes::after_minus(text, at), levels, table, nodes);
     let Read::At(after, first_nodes) = first else {
@@ -65,7 +66,8 @@ fn read_term(
     nodes: usize,
 ) -> Read
     requires { ⌜ Ready (now text) at nodes ⌝ }
-    ensures { λ r. ⌜ Reads (readTerm (inBrackets levels (now (text .entry))) (now (text .entry)) at) (now (text .entry)) at nodes (now (table .entry)) r (now (table .exit)) ⌝ }
+    ensures { λ r. ⌜ Reads (readTerm (inBrackets levels (now (text .entry))) (now (text .entry)) at) (now (text .entry)) at nodes (now (table .entry)) r
+        (now (table .exit)) ⌝ }
 {
     let first = read_factor(text, at, levels, table, nodes);
     let Read::At(after, first_nodes) = first else {
@@ -95,7 +97,8 @@ fn read_factor(
     nodes: usize,
 ) -> Read
     requires { ⌜ Ready (now text) at nodes ⌝ }
-    ensures { λ r. ⌜ Reads (readFactor (inBrackets levels (now (text .entry))) (now (text .entry)) at) (now (text .entry)) at nodes (now (table .entry)) r (now (table .exit)) ⌝ }
+    ensures { λ r. ⌜ Reads (readFactor (inBrackets levels (now (text .entry))) (now (text .entry)) at) (now (text .entry)) at nodes (now (table .entry)) r
+        (now (table .exit)) ⌝ }
 {
     let base = read_atom(text, at, levels, table, nodes);
     let Read::At(next, count) = base else {
@@ -122,7 +125,8 @@ fn read_atom(
     nodes: usize,
 ) -> Read
     requires { ⌜ Ready (now text) at nodes ⌝ }
-    ensures { λ r. ⌜ Reads (readAtom (inBrackets levels (now (text .entry))) (now (text .entry)) at) (now (text .entry)) at nodes (now (table .entry)) r (now (table .exit)) ⌝ }
+    ensures { λ r. ⌜ Reads (readAtom (inBrackets levels (now (text .entry))) (now (text .entry)) at) (now (text .entry)) at nodes (now (table .entry)) r
+        (now (table .exit)) ⌝ }
 {
     let b = bytes::peek(text, at);
     if b == b'(' {
