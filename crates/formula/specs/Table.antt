@@ -5,12 +5,12 @@ use Prim.Native.Nat.{ℕ, _/_, _%_}
 use lib.Dec.{eqb, leb}
 use lib.IntN.{ℤ}
 use lib.ListN.{length}
-use Rattle.algebra.specs.Limits.{largestDegree, mostTerms, largestWeight, mostNodes}
+use Rattle.algebra.specs.Limits.{mostNodes}
 use Rattle.algebra.specs.Sum.{Sum}
-use Rattle.answers.specs.Refusals.{SHAPE, DEGREE, WEIGHT, SPREAD}
+use Rattle.answers.specs.Refusals.{SHAPE}
 use Rattle.answers.specs.Judge.{Judged, Judged.good, holding, andThen}
 use Rattle.nodes.specs.Node.{Kind, readNode}
-use Rattle.nodes.specs.Formal.{formalDegree, formalWeight, nodeSpread, nodeSum}
+use Rattle.nodes.specs.Formal.{formalDegree, formalWeight, nodeSum, checkNode}
 
 -- what is kept of a node that has passed: its formal degree, its formal weight and its ordered sum
 pub record Entry : Type 0 where
@@ -35,12 +35,7 @@ abbrev pub entryOf : List Entry → Kind → Entry
 entryOf before k = entry (formalDegree (degrees before) k) (formalWeight (weights before) k) (nodeSum (sums before) k)
 
 unfoldable pub judgeNode : List Entry → Kind → Judged Entry
-judgeNode before k =
-    let i = length before in
-    holding (leb (formalDegree (degrees before) k) largestDegree) DEGREE i
-    (holding (leb (formalWeight (weights before) k) largestWeight) WEIGHT i
-    (holding (leb (nodeSpread (sums before) k) mostTerms) SPREAD i
-    (good (entryOf before k))))
+judgeNode before k = checkNode (length before) (degrees before) (weights before) (sums before) k (entryOf before k)
 
 -- three numbers for each node (a table of another shape is refused before)
 unfoldable pub judgeNodes : List Entry → List ℤ → Judged (List Entry)

@@ -1,12 +1,15 @@
--- What a node is judged by: its formal degree, its formal weight and its spread, each from the children's; and its ordered sum.
+-- What a node is judged by: its formal degree, its formal weight and its spread, each from the children's; its ordered sum; and the checks.
 use mathlib.Core.List.{List, []}
 use Prim.Native.Nat.{ℕ, _+_, _*_, _^_, max}
+use lib.Dec.{leb}
 use lib.IntN.{natAbs}
 use lib.ListN.{getD}
-use Rattle.algebra.specs.Limits.{variables}
+use Rattle.algebra.specs.Limits.{variables, largestDegree, mostTerms, largestWeight}
 use Rattle.algebra.specs.Sum.{Sum}
 use Rattle.algebra.specs.Arithmetic as arithmetic
 use Rattle.algebra.specs.Arithmetic.{_⊕_, _⊗_, sumSpread, productSpread, powerSpread}
+use Rattle.answers.specs.Refusals.{DEGREE, WEIGHT, SPREAD}
+use Rattle.answers.specs.Judge.{Judged, Judged.good, holding}
 use Rattle.nodes.specs.Node.{Kind, Kind.integer, Kind.variable, Kind.sum, Kind.product, Kind.power}
 
 -- ds has the formal degrees of the nodes before
@@ -39,3 +42,11 @@ nodeSum ss (variable v) = arithmetic.variable variables v
 nodeSum ss (sum a b) = getD ss a [] ⊕ getD ss b []
 nodeSum ss (product a b) = getD ss a [] ⊗ getD ss b []
 nodeSum ss (power a e) = arithmetic.power variables (getD ss a []) e
+
+-- the three checks in turn, each told with this place; then something is found good
+abbrev pub checkNode : {A : Type 0} → ℕ → List ℕ → List ℕ → List Sum → Kind → A → Judged A
+checkNode place ds hs ss k found =
+    holding (leb (formalDegree ds k) largestDegree) DEGREE place
+    (holding (leb (formalWeight hs k) largestWeight) WEIGHT place
+    (holding (leb (nodeSpread ss k) mostTerms) SPREAD place
+    (good found)))
