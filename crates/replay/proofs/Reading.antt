@@ -4,17 +4,23 @@ use mathlib.Core.List.{List}
 use Prim.Native.Nat.{ℕ, suc, _+_, _*_, _-_, _/_, _%_, _^_, _≤_, _<_}
 use native.Mathlib.Omega.{arith}
 use native.Mathlib.Nat.{pow-succ', pow-le-pow-right}
-use lib.ListN.{length, take}
+use lib.ListN.{length, take, replicate, length-replicate}
 use lib.Seq.{length-take-le}
 use Rattle.io.specs.Digits.{glyph}
 use Rattle.replay.specs.Limits.{mostBytes, mostWords}
-use Rattle.replay.specs.Fields.{DigitAt, ByteAt, WordIn, Within, LengthsWithin}
+use Rattle.replay.specs.Fields.{DigitAt, ByteAt, WordIn, Within, Rising, PartsWithin, LengthsWithin, CaseWithin, TakenWithin}
 use Rattle.replay.specs.declared.fields.Field.{Field}
 use Rattle.replay.specs.declared.fields.Field.the-variants.{Got}
 use Rattle.replay.specs.declared.fields.Word.{Word}
 use Rattle.replay.specs.declared.fields.Word.the-variants.{Bits}
+use Rattle.replay.specs.declared.fields.Ends.{Ends}
+use Rattle.replay.specs.declared.fields.Parts.{Parts}
+use Rattle.replay.specs.declared.fields.Parts.the-variants as parts
 use Rattle.replay.specs.declared.fields.Lengths.{Lengths}
 use Rattle.replay.specs.declared.fields.Lengths.the-variants.{Are}
+use Rattle.replay.specs.declared.fields.Case.{Case}
+use Rattle.replay.specs.declared.fields.Taken.{Taken}
+use Rattle.replay.specs.declared.fields.Taken.the-variants.{Is}
 
 -- two digits are a byte
 pub two-digits : (line : List ℕ) (at h l : ℕ) → DigitAt line at h → h < 16 → DigitAt line (at + 1) l → l < 16 → ByteAt line at (16 * h + l)
@@ -52,6 +58,18 @@ got-within h e = rw e at (h .inside)
 pub lengths-within : {r p c : ℕ} {l : Lengths} → LengthsWithin l → l ≡ Are r p c → (r ≤ mostBytes) × (p ≤ mostWords) × (c ≤ mostWords)
 lengths-within h e = rw e at (h .inside)
 
+pub parts-within : {most next : ℕ} {ends : Ends} {p : Parts} → PartsWithin most p → p ≡ parts.Are ends next → Rising most ends
+parts-within h e = rw e at (h .inside)
+
+pub case-within : {most : ℕ} {case : Case} {t : Taken} → TakenWithin most t → t ≡ Is case → CaseWithin most case
+case-within h e = rw e at (h .inside)
+
+pub rising-more : {most most' : ℕ} {ends : Ends} → Rising most ends → most ≤ most' → Rising most' ends
+rising-more r h = record { one = r .one; two = r .two; three = r .three; four = omega (arith, r .four, h) }
+
+pub first-inside : {most : ℕ} {ends : Ends} → Rising most ends → ends .first ≤ most
+first-inside r = omega (arith, r .one, r .two, r .three, r .four)
+
 -- ---- The first places of an area.
 
 module _ {A : Type 0} (n : ℕ) (area : List A) (inside : n ≤ length area) where
@@ -60,3 +78,11 @@ module _ {A : Type 0} (n : ℕ) (area : List A) (inside : n ≤ length area) whe
 
   pub prefix-most : {most : ℕ} → n ≤ most → length (take n area) ≤ most
   prefix-most h = rw (length-take-le n area inside) h
+
+-- of one that was made, and not written yet
+module _ {A : Type 0} (n all : ℕ) (a : A) (inside : n ≤ all) where
+  pub made-count : n ≡ length (take n (replicate all a))
+  made-count = prefix-count n (replicate all a) (rw (length-replicate all a) inside)
+
+  pub made-most : length (take n (replicate all a)) ≤ all
+  made-most = rw (sym made-count) inside

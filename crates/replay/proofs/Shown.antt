@@ -1,12 +1,12 @@
 -- What an operation says that it wrote stands within its area.
-use mathlib.Core.Path.{_≡_, refl, ap, _∙_}
+use mathlib.Core.Path.{_≡_, refl, sym, ap, _∙_}
 use mathlib.Core.Bool.{Bool, true, false, _&&_}
 use mathlib.Core.List.{List, []}
-use Prim.Native.Nat.{ℕ, _*_, _≤_}
+use Prim.Native.Nat.{ℕ, _*_, _≤_, _<_}
 use native.Mathlib.Omega.{arith}
 use lib.Dec.{eqb, leb}
 use lib.IntN.{ℤ, pos}
-use lib.ListN.{length, drop, take, length-append, length-map}
+use lib.ListN.{length, getD, drop, take, length-append, length-map}
 use borrow.Author.Tests.{eqb-true, leb-true}
 use Rattle.algebra.specs.Limits.{variables, mostTerms, workPlaces}
 use Rattle.algebra.specs.Sum.{Sum}
@@ -14,7 +14,7 @@ use Rattle.algebra.specs.Held.{wordsOf, coefficientsOf, firstTerms}
 use Rattle.answers.specs.Refusals.{ROOM, SHAPE, SUM}
 use Rattle.answers.specs.Answers.{Told, Told.done, Told.refused, Outcome, outcome, check}
 use Rattle.answers.specs.Areas.{written, cleared}
-use Rattle.answers.specs.Host.{hosted, narrowUnit}
+use Rattle.answers.specs.Host.{hosted, narrowUnit, heard}
 use Rattle.answers.specs.Judge.{Judged, Judged.good, Judged.fails}
 use Rattle.packed.specs.Packed.{packed, mostBytes}
 use Rattle.packed.specs.ReadSum.{readWhole}
@@ -27,13 +27,17 @@ use Rattle.formula.specs.Simplify.{tableSum, simplify}
 use Rattle.formula.proofs.Passing.{table-length}
 use Rattle.change.specs.Slope.{slope}
 use Rattle.change.specs.Substitute.{judgeSubstitute, substitute}
-use Rattle.router.specs.Estimate.{judgeEstimate, answerBytes, answerInto, estimate}
+use Rattle.estimates.specs.Range.{Estimate}
+use Rattle.router.specs.Estimate.{judgeEstimate, answerBytes, answerOf, answerInto, estimate}
+use Rattle.numbers.specs.Bytes.{wholeBytes, signedBytes}
+use Rattle.numbers.proofs.Complement.{bytes-length}
+use Rattle.router.proofs.ForHost.{estimate-heard}
 use Rattle.nodes.specs.Node.{tableOf}
 use Rattle.text.specs.Tree.{Tree, nodesOf}
 use Rattle.text.specs.Limits.{tablePlaces}
 use Rattle.text.specs.Text.{judgeText, tableInto, readFormula}
 use Rattle.text.proofs.Trees.{nodes-length}
-use Rattle.replay.specs.Telling.{toldAs, hostTold, Shows}
+use Rattle.replay.specs.Telling.{toldAs, Shows}
 use Rattle.replay.specs.declared.telling.Told as code
 use Rattle.replay.specs.declared.telling.Told.the-variants.{Done}
 
@@ -137,14 +141,18 @@ text-shows text table {t} {x} e = go (leb tablePlaces (length table)) (judgeText
     go true (fails refusal place) f = shows-refused f
     go false j f = shows-refused f
 
--- a C host's number is 16 only if there was room
-pub estimate-shows : (bytes readings tolerances area : List ℕ) {number : ℕ} {x : List ℕ} → (number, x) ≡ hosted narrowUnit (estimate bytes readings tolerances area)
-    → length x ≡ length area → Shows itself (length x) (hostTold number)
-unfolding estimate
-estimate-shows bytes readings tolerances area {number} {x} e same = go (leb answerBytes (length area)) refl e (eqb number answerBytes) refl
+answer-length : (e : ℤ) (m : ℕ) → length (answerOf e m) ≡ answerBytes
+answer-length e m =
+    omega (arith, length-append (signedBytes wholeBytes e) (signedBytes wholeBytes (pos m)), bytes-length wholeBytes e, bytes-length wholeBytes (pos m))
+
+-- of the number that a C host gets
+pub estimate-shows : (bytes : List ℕ) → ((i : ℕ) → getD bytes i 0 < 256) → (readings tolerances area : List ℕ) {number : ℕ} {x : List ℕ}
+    → (number, x) ≡ hosted narrowUnit (estimate bytes readings tolerances area) → Shows itself (length x) (heard number)
+unfolding estimate answerInto
+estimate-shows bytes byte readings tolerances area {number} {x} e =
+    go (leb answerBytes (length area)) (judgeEstimate bytes readings tolerances) (sym (estimate-heard bytes byte readings tolerances area e))
   where
-    go : (b : Bool) → leb answerBytes (length area) ≡ b → (number, x) ≡ hosted narrowUnit (check b ROOM 0 area (answerInto (judgeEstimate bytes readings tolerances) area))
-        → (d : Bool) → eqb number answerBytes ≡ d → Shows itself (length x) (hostTold number)
-    go b room f false is = rw is (record { inside = tt })
-    go true room f true is = rw is (record { inside = omega (arith, leb-true answerBytes (length area) room, same) })
-    go false room f true is = absurd (omega (arith, ap (λ (p : ℕ × List ℕ). p .0) f, eqb-true number answerBytes is))
+    go : (b : Bool) (j : Judged Estimate) → outcome (heard number) x ≡ check b ROOM 0 area (answerInto j area) → Shows itself (length x) (heard number)
+    go true (good v) f = shows-written (answerOf (v .estimate) (v .margin)) area f (answer-length (v .estimate) (v .margin))
+    go true (fails refusal place) f = shows-refused f
+    go false j f = shows-refused f

@@ -9,8 +9,14 @@ use Rattle.replay.specs.declared.fields.Field.{Field}
 use Rattle.replay.specs.declared.fields.Field.the-variants as field
 use Rattle.replay.specs.declared.fields.Word.{Word}
 use Rattle.replay.specs.declared.fields.Word.the-variants.{Bits, Nothing}
+use Rattle.replay.specs.declared.fields.Ends.{Ends}
+use Rattle.replay.specs.declared.fields.Parts.{Parts}
+use Rattle.replay.specs.declared.fields.Parts.the-variants as parts
 use Rattle.replay.specs.declared.fields.Lengths.{Lengths}
 use Rattle.replay.specs.declared.fields.Lengths.the-variants as lengths
+use Rattle.replay.specs.declared.fields.Case.{Case}
+use Rattle.replay.specs.declared.fields.Taken.{Taken}
+use Rattle.replay.specs.declared.fields.Taken.the-variants as taken
 
 -- the value of a digit at a place, and 16 if none stands there
 pub record DigitAt (line : List ℕ) (at r : ℕ) : Type 0 where
@@ -41,9 +47,37 @@ within least most field.Bad = Unit
 pub record Within (least most : ℕ) (read : Field) : Type 0 where
   pub inside : within least most read
 
+-- fields of bytes stand one behind the other, and none ends past a place
+pub record Rising (most : ℕ) (ends : Ends) : Type 0 where
+  pub one : ends .first ≤ ends .second
+  pub two : ends .second ≤ ends .third
+  pub three : ends .third ≤ ends .fourth
+  pub four : ends .fourth ≤ most
+
+abbrev pub partsWithin : ℕ → Parts → Type 0
+partsWithin most (parts.Are ends next) = Rising most ends
+partsWithin most parts.Bad = Unit
+
+pub record PartsWithin (most : ℕ) (read : Parts) : Type 0 where
+  pub inside : partsWithin most read
+
 abbrev pub lengthsWithin : Lengths → Type 0
 lengthsWithin (lengths.Are r p c) = (r ≤ mostBytes) × (p ≤ mostWords) × (c ≤ mostWords)
 lengthsWithin lengths.Bad = Unit
 
 pub record LengthsWithin (read : Lengths) : Type 0 where
   pub inside : lengthsWithin read
+
+-- what a line says fits the areas
+pub record CaseWithin (most : ℕ) (case : Case) : Type 0 where
+  pub rising : Rising most (case .ends)
+  pub result : case .result ≤ mostBytes
+  pub patterns : case .patterns ≤ mostWords
+  pub coefficients : case .coefficients ≤ mostWords
+
+abbrev pub takenWithin : ℕ → Taken → Type 0
+takenWithin most (taken.Is case) = CaseWithin most case
+takenWithin most taken.Bad = Unit
+
+pub record TakenWithin (most : ℕ) (read : Taken) : Type 0 where
+  pub inside : takenWithin most read

@@ -4,4 +4,4 @@ pub mod Hex
 pub mod Fields
 pub mod Filling
 pub mod Telling
-pub mod Lent
+pub mod Gathering

@@ -1,20 +1,12 @@
 -- What an operation answered, as the definitions of the library tell it.
-use mathlib.Core.Bool.{cond}
-use Prim.Native.Nat.{ℕ, _/_, _%_, _≤_}
-use lib.Dec.{eqb}
+use Prim.Native.Nat.{ℕ, _≤_}
 use Rattle.answers.specs.Answers.{Told, Told.done, Told.refused}
-use Rattle.answers.specs.Host.{narrowUnit}
-use Rattle.router.specs.Estimate.{answerBytes}
 use Rattle.replay.specs.declared.telling.Told as code
 use Rattle.replay.specs.declared.telling.Told.the-variants.{Done, Refused}
 
 abbrev pub toldAs : code.Told → Told
 toldAs (Done n) = done n
 toldAs (Refused refusal place) = refused refusal place
-
--- the number for a C host, taken apart
-abbrev pub hostTold : ℕ → Told
-hostTold number = cond (eqb number answerBytes) (done answerBytes) (refused (number / narrowUnit) (number % narrowUnit))
 
 -- what is said to be written fits: a rule gives the places for the number returned
 abbrev pub shows : (ℕ → ℕ) → ℕ → Told → Type 0

@@ -1,25 +1,36 @@
 // One case: its line is taken for the operation that it names.
 use crate::LONGEST_LINE;
 use crate::changes;
-use crate::estimating;
 use crate::fields;
 use crate::formulas;
 use crate::lines;
 use crate::packing;
+use crate::results;
+use crate::results::Call;
 ghost use Prim.Native.Nat.{_≤_};
 ghost use lib.ListN.{length};
 ghost use Rattle.replay.specs.Limits.{mostAnswer};
-ghost use Rattle.replay.specs.Lent.{Lent};
 
 enum Operation {
     Text,
     Simplify,
     Unpack,
     Pack,
-    Slope,
     Substitute,
-    Estimate,
+    // Bytes and numbers to bytes: how many fields of bytes there are, and how many numbers.
+    Result(Call, usize, usize),
     Unknown,
+}
+
+// An operation whose one area takes bytes.
+fn result_named(name: &[u8]) -> Operation {
+    if check::same(name, b"slope") {
+        return Operation::Result(Call::Slope, 1, 1);
+    }
+    if check::same(name, b"estimate") {
+        return Operation::Result(Call::Estimate, 3, 0);
+    }
+    Operation::Unknown
 }
 
 fn named(name: &[u8]) -> Operation {
@@ -35,29 +46,14 @@ fn named(name: &[u8]) -> Operation {
     if check::same(name, b"pack") {
         return Operation::Pack;
     }
-    if check::same(name, b"slope") {
-        return Operation::Slope;
-    }
     if check::same(name, b"substitute") {
         return Operation::Substitute;
     }
-    if check::same(name, b"estimate") {
-        return Operation::Estimate;
-    }
-    Operation::Unknown
+    result_named(name)
 }
 
 // Writes the answer to a line at the start of an area, and answers its length.
-pub(crate) fn answer(
-    line: &[u8],
-    given: &mut [u8],
-    table: &mut [i64],
-    patterns: &mut [u64],
-    coefficients: &mut [i64],
-    result: &mut [u8],
-    out: &mut [u8],
-) -> usize
-    requires { ⌜ Lent (now table) (now patterns) (now coefficients) (now result) ⌝ }
+pub(crate) fn answer(line: &[u8], out: &mut [u8]) -> usize
     requires { ⌜ mostAnswer ≤ length (now out) ⌝ }
     ensures { λ r. ⌜ r ≤ mostAnswer ⌝ }
 {
@@ -65,31 +61,21 @@ pub(crate) fn answer(
         return lines::unknown(out);
     }
     let at = fields::name_end(line);
-    let operation = named(&line[..at]);
+    let operation = named(&line[0..at]);
     match operation {
-        Operation::Text => formulas::text(line, at, given, table, out),
-        Operation::Simplify => formulas::simplify(
+        Operation::Text => formulas::text(line, at, out),
+        Operation::Simplify => formulas::simplify(line, at, out),
+        Operation::Unpack => packing::unpack(line, at, out),
+        Operation::Pack => packing::pack(line, at, out),
+        Operation::Substitute => changes::substitute(line, at, out),
+        Operation::Result(call, bytes, numbers) => results::answer(
+            call,
+            bytes,
+            numbers,
             line,
             at,
-            table,
-            result,
-            patterns,
-            coefficients,
             out,
         ),
-        Operation::Unpack => packing::unpack(line, at, given, patterns, coefficients, out),
-        Operation::Pack => packing::pack(line, at, patterns, coefficients, result, out),
-        Operation::Slope => changes::slope(line, at, given, result, out),
-        Operation::Substitute => changes::substitute(
-            line,
-            at,
-            given,
-            result,
-            patterns,
-            coefficients,
-            out,
-        ),
-        Operation::Estimate => estimating::estimate(line, at, given, result, out),
         Operation::Unknown => lines::unknown(out),
     }
 }

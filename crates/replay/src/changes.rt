@@ -1,60 +1,29 @@
-// Cases of slopes and of substitution.
+// Cases of substitution.
 use crate::MOST_BYTES;
+use crate::MOST_GIVEN;
+use crate::MOST_WORDS;
 use crate::fields;
-use crate::fields::Field;
-use crate::fields::Lengths;
+use crate::fields::Ends;
+use crate::fields::Form;
+use crate::fields::Taken;
 use crate::filling;
 use crate::lines;
 use crate::telling;
 ghost use Prim.Native.Nat.{_≤_};
 ghost use lib.ListN.{length};
 ghost use Rattle.replay.specs.Limits.{mostBytes, mostWords, mostAnswer};
-
-fn slope_bytes(bytes: &[u8], v: u64, result: &mut [u8], out: &mut [u8]) -> usize
-    requires { ⌜ length (now result) ≤ mostBytes ⌝ }
-    requires { ⌜ mostAnswer ≤ length (now out) ⌝ }
-    ensures { λ r. ⌜ r ≤ mostAnswer ⌝ }
-{
-    filling::fill_bytes(result);
-    let told = telling::answered(change::slope(bytes, v, result));
-    telling::tell_result(told, result, out)
-}
-
-// slope BYTES N LEN
-pub(crate) fn slope(
-    line: &[u8],
-    at: usize,
-    given: &mut [u8],
-    result: &mut [u8],
-    out: &mut [u8],
-) -> usize
-    requires { ⌜ mostBytes ≤ length (now result) ⌝ }
-    requires { ⌜ mostAnswer ≤ length (now out) ⌝ }
-    ensures { λ r. ⌜ r ≤ mostAnswer ⌝ }
-{
-    let Field::Got(end, next) = fields::bytes(line, at, given, 0) else {
-        return lines::unknown(out);
-    };
-    let Field::Got(v, after) = fields::number(line, next, 18446744073709551615) else {
-        return lines::unknown(out);
-    };
-    let Field::Got(r, _) = fields::last_number(line, after, MOST_BYTES) else {
-        return lines::unknown(out);
-    };
-    slope_bytes(&given[..end], v as u64, &mut result[..r], out)
-}
+ghost use Rattle.replay.specs.Fields.{Rising};
 
 // The sum and the list stand one after the other in what is given.
 fn substitute_list(
     given: &[u8],
-    first: usize,
-    second: usize,
+    ends: Ends,
     result: &mut [u8],
     patterns: &mut [u64],
     coefficients: &mut [i64],
     out: &mut [u8],
 ) -> usize
-    requires { ⌜ (first ≤ second) × (second ≤ length (now given)) ⌝ }
+    requires { ⌜ Rising (length (now given)) ends ⌝ }
     requires { ⌜ length (now result) ≤ mostBytes ⌝ }
     requires { ⌜ length (now patterns) ≤ mostWords ⌝ }
     requires { ⌜ length (now coefficients) ≤ mostWords ⌝ }
@@ -64,8 +33,10 @@ fn substitute_list(
     filling::fill_bytes(result);
     filling::fill_words(patterns);
     filling::fill_signed(coefficients);
+    let first = ends.first;
+    let second = ends.second;
     let told = telling::answered(change::substitute(
-        &given[..first],
+        &given[0..first],
         &given[first..second],
         patterns,
         coefficients,
@@ -75,34 +46,31 @@ fn substitute_list(
 }
 
 // substitute BYTES BYTES LEN LEN LEN
-pub(crate) fn substitute(
-    line: &[u8],
-    at: usize,
-    given: &mut [u8],
-    result: &mut [u8],
-    patterns: &mut [u64],
-    coefficients: &mut [i64],
-    out: &mut [u8],
-) -> usize
-    requires { ⌜ mostBytes ≤ length (now result) ⌝ }
-    requires { ⌜ mostWords ≤ length (now patterns) ⌝ }
-    requires { ⌜ mostWords ≤ length (now coefficients) ⌝ }
+pub(crate) fn substitute(line: &[u8], at: usize, out: &mut [u8]) -> usize
     requires { ⌜ mostAnswer ≤ length (now out) ⌝ }
     ensures { λ r. ⌜ r ≤ mostAnswer ⌝ }
 {
-    let Field::Got(first, next) = fields::bytes(line, at, given, 0) else {
+    let mut given = [0u8; MOST_GIVEN];
+    let mut result = [0u8; MOST_BYTES];
+    let mut patterns = [0u64; MOST_WORDS];
+    let mut coefficients = [0i64; MOST_WORDS];
+    let form = Form {
+        bytes: 2,
+        numbers: 0,
+        result: true,
+        patterns: true,
+        coefficients: true,
+    };
+    let Taken::Is(case) = fields::take(line, at, form, &mut given) else {
         return lines::unknown(out);
     };
-    let Field::Got(second, after) = fields::bytes(line, next, given, first) else {
-        return lines::unknown(out);
-    };
-    let Lengths::Are(r, p, c) = fields::last_lengths(line, after) else {
-        return lines::unknown(out);
-    };
+    let r = case.result;
+    let p = case.patterns;
+    let c = case.coefficients;
+    let ends = case.ends;
     substitute_list(
-        given,
-        first,
-        second,
+        &given,
+        ends,
         &mut result[..r],
         &mut patterns[..p],
         &mut coefficients[..c],

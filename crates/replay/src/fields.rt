@@ -8,7 +8,7 @@ ghost use mathlib.Core.Path.{_≡_};
 ghost use mathlib.Core.Bool.{true};
 ghost use Prim.Native.Nat.{ℕ, _≤_, _<_};
 ghost use lib.ListN.{length, getD};
-ghost use Rattle.replay.specs.Fields.{DigitAt, ByteAt, WordIn, Within, LengthsWithin};
+ghost use Rattle.replay.specs.Fields.{DigitAt, ByteAt, WordIn, Within, Rising, PartsWithin, LengthsWithin, TakenWithin};
 
 pub enum Field {
     // How many places of an area are filled now, or a number; and the place after the field.
@@ -22,9 +22,53 @@ pub enum Word {
     Nothing,
 }
 
-// How long three areas are.
+// How a case is written: so many fields of bytes, up to four, so many numbers, up to two, and then how long each of the lent areas is that there are.
+pub struct Form {
+    pub bytes: usize,
+    pub numbers: usize,
+    pub result: bool,
+    pub patterns: bool,
+    pub coefficients: bool,
+}
+
+// Where fields of bytes end in the area that they are put into, one behind the other. Those that there are not end with the last.
+pub struct Ends {
+    pub first: usize,
+    pub second: usize,
+    pub third: usize,
+    pub fourth: usize,
+}
+
+// The fields of bytes, and the place after them.
+pub enum Parts {
+    Are(Ends, usize),
+    Bad,
+}
+
+// The last number and the one before it, and the place after them.
+pub enum Numbers {
+    Are(usize, usize, usize),
+    Bad,
+}
+
+// How long the result, the patterns and the coefficients are: 0 for what is not lent.
 pub enum Lengths {
     Are(usize, usize, usize),
+    Bad,
+}
+
+// What a line says, by a form.
+pub struct Case {
+    pub ends: Ends,
+    pub before: usize,
+    pub last: usize,
+    pub result: usize,
+    pub patterns: usize,
+    pub coefficients: usize,
+}
+
+pub enum Taken {
+    Is(Case),
     Bad,
 }
 
@@ -235,33 +279,129 @@ pub(crate) fn number(line: &[u8], at: usize, most: usize) -> Field
     Field::Got(value, next)
 }
 
-// The last field of a line: how long an area is.
-pub(crate) fn last_number(line: &[u8], at: usize, most: usize) -> Field
+// The end of one more field of bytes, of which there were so many.
+fn placed(ends: Ends, count: usize, end: usize) -> Ends
+    requires { ⌜ Rising end ends ⌝ }
+    ensures { λ r. ⌜ Rising end r ⌝ }
+{
+    let mut placed = ends;
+    placed.fourth = end;
+    if count > 2 {
+        return placed;
+    }
+    placed.third = end;
+    if count > 1 {
+        return placed;
+    }
+    placed.second = end;
+    if count > 0 {
+        return placed;
+    }
+    placed.first = end;
+    placed
+}
+
+fn byte_fields(line: &[u8], at: usize, count: usize, given: &mut [u8]) -> Parts
+    ensures { λ r. ⌜ PartsWithin (length (now (given .exit))) r ⌝ }
+{
+    let mut ends = Ends {
+        first: 0,
+        second: 0,
+        third: 0,
+        fourth: 0,
+    };
+    let mut next = at;
+    let mut i = 0;
+    while i < count {
+        let from = ends.fourth;
+        let Field::Got(end, after) = bytes(line, next, given, from) else {
+            return Parts::Bad;
+        };
+        ends = placed(ends, i, end);
+        next = after;
+        i += 1;
+    }
+    Parts::Are(ends, next)
+}
+
+fn number_fields(line: &[u8], at: usize, count: usize) -> Numbers {
+    let mut before = 0;
+    let mut last = 0;
+    let mut next = at;
+    let mut i = 0;
+    while i < count {
+        let Field::Got(n, after) = number(line, next, 18446744073709551615) else {
+            return Numbers::Bad;
+        };
+        before = last;
+        last = n;
+        next = after;
+        i += 1;
+    }
+    Numbers::Are(before, last, next)
+}
+
+// How long an area is, if it is lent.
+fn area_length(line: &[u8], at: usize, lent: bool, most: usize) -> Field
     requires { ⌜ 9 ≤ most ⌝ }
     ensures { λ r. ⌜ Within 0 most r ⌝ }
 {
-    let field = number(line, at, most);
-    let Field::Got(value, next) = field else {
-        return field;
-    };
-    if next < line.len() {
-        return Field::Bad;
+    if lent {
+        return number(line, at, most);
     }
-    Field::Got(value, next)
+    Field::Got(0, at)
 }
 
-// The last three fields of an operation with work areas: how long the result, the patterns and the coefficients are.
-pub(crate) fn last_lengths(line: &[u8], at: usize) -> Lengths
+// The last fields of a line.
+pub(crate) fn area_lengths(
+    line: &[u8],
+    at: usize,
+    result: bool,
+    patterns: bool,
+    coefficients: bool,
+) -> Lengths
     ensures { λ r. ⌜ LengthsWithin r ⌝ }
 {
-    let Field::Got(result, after_result) = number(line, at, MOST_BYTES) else {
+    let Field::Got(r, after_result) = area_length(line, at, result, MOST_BYTES) else {
         return Lengths::Bad;
     };
-    let Field::Got(patterns, after_patterns) = number(line, after_result, MOST_WORDS) else {
+    let Field::Got(p, after_patterns) = area_length(line, after_result, patterns, MOST_WORDS) else {
         return Lengths::Bad;
     };
-    let Field::Got(coefficients, _) = last_number(line, after_patterns, MOST_WORDS) else {
+    let Field::Got(c, end) = area_length(line, after_patterns, coefficients, MOST_WORDS) else {
         return Lengths::Bad;
     };
-    Lengths::Are(result, patterns, coefficients)
+    if end < line.len() {
+        return Lengths::Bad;
+    }
+    Lengths::Are(r, p, c)
+}
+
+// A whole line from the end of its name on.
+pub(crate) fn take(line: &[u8], at: usize, form: Form, given: &mut [u8]) -> Taken
+    ensures { λ r. ⌜ TakenWithin (length (now (given .exit))) r ⌝ }
+{
+    let Parts::Are(ends, after_bytes) = byte_fields(line, at, form.bytes, given) else {
+        return Taken::Bad;
+    };
+    let Numbers::Are(before, last, next) = number_fields(line, after_bytes, form.numbers) else {
+        return Taken::Bad;
+    };
+    let Lengths::Are(result, patterns, coefficients) = area_lengths(
+        line,
+        next,
+        form.result,
+        form.patterns,
+        form.coefficients,
+    ) else {
+        return Taken::Bad;
+    };
+    Taken::Is(Case {
+        ends: ends,
+        before: before,
+        last: last,
+        result: result,
+        patterns: patterns,
+        coefficients: coefficients,
+    })
 }

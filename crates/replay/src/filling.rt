@@ -130,7 +130,8 @@ fn words_zero(area: &[u64], count: usize) -> bool
 
 fn signed_zero(area: &[i64], count: usize) -> bool
     requires { ⌜ count ≤ length (now area) ⌝ }
-    ensures { λ r. ⌜ (r ≡ true → Holds (pos 0) (λ i. pos 0) 0 count (now (area .entry))) × (Holds (pos 0) (λ i. pos 0) 0 count (now (area .entry)) → r ≡ true) ⌝ }
+    ensures { λ r. ⌜ (r ≡ true → Holds (pos 0) (λ i. pos 0) 0 count (now (area .entry)))
+        × (Holds (pos 0) (λ i. pos 0) 0 count (now (area .entry)) → r ≡ true) ⌝ }
 {
     let mut i = 0;
     while i < count {

@@ -1,8 +1,12 @@
 // Cases of typed formulas and of tables.
+use crate::MOST_BYTES;
+use crate::MOST_GIVEN;
 use crate::MOST_WORDS;
 use crate::fields;
 use crate::fields::Field;
+use crate::fields::Form;
 use crate::fields::Lengths;
+use crate::fields::Taken;
 use crate::filling;
 use crate::lines;
 use crate::telling;
@@ -21,23 +25,25 @@ fn read_formula(text: &[u8], table: &mut [i64], out: &mut [u8]) -> usize
 }
 
 // text BYTES LEN
-pub(crate) fn text(
-    line: &[u8],
-    at: usize,
-    given: &mut [u8],
-    table: &mut [i64],
-    out: &mut [u8],
-) -> usize
-    requires { ⌜ mostWords ≤ length (now table) ⌝ }
+pub(crate) fn text(line: &[u8], at: usize, out: &mut [u8]) -> usize
     requires { ⌜ mostAnswer ≤ length (now out) ⌝ }
     ensures { λ r. ⌜ r ≤ mostAnswer ⌝ }
 {
-    let Field::Got(end, next) = fields::bytes(line, at, given, 0) else {
+    let mut given = [0u8; MOST_GIVEN];
+    let mut table = [0i64; MOST_WORDS];
+    let form = Form {
+        bytes: 1,
+        numbers: 0,
+        result: false,
+        patterns: false,
+        coefficients: true,
+    };
+    let Taken::Is(case) = fields::take(line, at, form, &mut given) else {
         return lines::unknown(out);
     };
-    let Field::Got(length, _) = fields::last_number(line, next, MOST_WORDS) else {
-        return lines::unknown(out);
-    };
+    let ends = case.ends;
+    let end = ends.first;
+    let length = case.coefficients;
     read_formula(&given[..end], &mut table[..length], out)
 }
 
@@ -62,25 +68,18 @@ fn simplify_table(
 }
 
 // simplify WORDS LEN LEN LEN
-pub(crate) fn simplify(
-    line: &[u8],
-    at: usize,
-    table: &mut [i64],
-    result: &mut [u8],
-    patterns: &mut [u64],
-    coefficients: &mut [i64],
-    out: &mut [u8],
-) -> usize
-    requires { ⌜ mostBytes ≤ length (now result) ⌝ }
-    requires { ⌜ mostWords ≤ length (now patterns) ⌝ }
-    requires { ⌜ mostWords ≤ length (now coefficients) ⌝ }
+pub(crate) fn simplify(line: &[u8], at: usize, out: &mut [u8]) -> usize
     requires { ⌜ mostAnswer ≤ length (now out) ⌝ }
     ensures { λ r. ⌜ r ≤ mostAnswer ⌝ }
 {
-    let Field::Got(count, next) = fields::signed_words(line, at, table) else {
+    let mut table = [0i64; MOST_WORDS];
+    let mut result = [0u8; MOST_BYTES];
+    let mut patterns = [0u64; MOST_WORDS];
+    let mut coefficients = [0i64; MOST_WORDS];
+    let Field::Got(count, next) = fields::signed_words(line, at, &mut table) else {
         return lines::unknown(out);
     };
-    let Lengths::Are(r, p, c) = fields::last_lengths(line, next) else {
+    let Lengths::Are(r, p, c) = fields::area_lengths(line, next, true, true, true) else {
         return lines::unknown(out);
     };
     simplify_table(

@@ -5,17 +5,17 @@ use libc::STDOUT_FILENO;
 ghost use Prim.Native.Nat.{_+_, _*_, _≤_};
 ghost use lib.ListN.{length};
 ghost use Rattle.replay.specs.Limits.{mostAnswer};
-ghost use Rattle.replay.specs.Lent.{Lent, Gathers};
+ghost use Rattle.replay.specs.Gathering.{Gathers};
 
 mod cases;
 mod changes;
 mod digits;
-mod estimating;
 mod fields;
 mod filling;
 mod formulas;
 mod lines;
 mod packing;
+mod results;
 mod telling;
 
 // A line of more bytes than this is no case.
@@ -60,25 +60,14 @@ fn make_room(out: &[u8], gathered: usize) -> usize
     ensures { λ r. ⌜ r + mostAnswer ≤ length (now (out .entry)) ⌝ }
 {
     if gathered > MOST_ANSWER {
-        io::write_all(STDOUT_FILENO, &out[..gathered]);
+        io::write_all(STDOUT_FILENO, &out[0..gathered]);
         return 0;
     }
     gathered
 }
 
 // A piece of the input, byte by byte: at the end of each line its answer is gathered.
-fn take_piece(
-    piece: &[u8],
-    line: &mut [u8],
-    given: &mut [u8],
-    table: &mut [i64],
-    patterns: &mut [u64],
-    coefficients: &mut [i64],
-    result: &mut [u8],
-    out: &mut [u8],
-    progress: Progress,
-) -> Progress
-    requires { ⌜ Lent (now table) (now patterns) (now coefficients) (now result) ⌝ }
+fn take_piece(piece: &[u8], line: &mut [u8], out: &mut [u8], progress: Progress) -> Progress
     requires { ⌜ 2 * mostAnswer ≤ length (now out) ⌝ }
     requires { ⌜ Gathers (now line) (progress .line) (now out) (progress .gathered) ⌝ }
     ensures { λ r. ⌜ Gathers (now (line .exit)) (r .line) (now (out .exit)) (r .gathered) ⌝ }
@@ -88,15 +77,7 @@ fn take_piece(
     let mut i = 0;
     while i < piece.len() {
         if piece[i] == b'\n' {
-            let end = cases::answer(
-                &line[..held],
-                given,
-                table,
-                patterns,
-                coefficients,
-                result,
-                &mut out[gathered..],
-            );
+            let end = cases::answer(&line[0..held], &mut out[gathered..]);
             gathered = make_room(out, gathered + end);
             held = 0;
             i += 1;
@@ -112,17 +93,7 @@ fn take_piece(
 }
 
 // The input to its end. The pieces are counted down from more than there can be, so that this ends.
-fn replay(
-    piece: &mut [u8],
-    line: &mut [u8],
-    given: &mut [u8],
-    table: &mut [i64],
-    patterns: &mut [u64],
-    coefficients: &mut [i64],
-    result: &mut [u8],
-    out: &mut [u8],
-) -> Progress
-    requires { ⌜ Lent (now table) (now patterns) (now coefficients) (now result) ⌝ }
+fn replay(piece: &mut [u8], line: &mut [u8], out: &mut [u8]) -> Progress
     requires { ⌜ 2 * mostAnswer ≤ length (now out) ⌝ }
     ensures { λ r. ⌜ Gathers (now (line .exit)) (r .line) (now (out .exit)) (r .gathered) ⌝ }
 {
@@ -136,84 +107,31 @@ fn replay(
         if length == 0 {
             return progress;
         }
-        progress = take_piece(
-            &piece[..length],
-            line,
-            given,
-            table,
-            patterns,
-            coefficients,
-            result,
-            out,
-            progress,
-        );
+        progress = take_piece(&piece[0..length], line, out, progress);
         left -= 1;
     }
     progress
 }
 
 // A last line without a newline is ended by one.
-fn finish(
-    line: &mut [u8],
-    given: &mut [u8],
-    table: &mut [i64],
-    patterns: &mut [u64],
-    coefficients: &mut [i64],
-    result: &mut [u8],
-    out: &mut [u8],
-    progress: Progress,
-)
-    requires { ⌜ Lent (now table) (now patterns) (now coefficients) (now result) ⌝ }
+fn finish(line: &mut [u8], out: &mut [u8], progress: Progress)
     requires { ⌜ 2 * mostAnswer ≤ length (now out) ⌝ }
     requires { ⌜ Gathers (now line) (progress .line) (now out) (progress .gathered) ⌝ }
 {
     if progress.line > 0 {
-        let ended = take_piece(
-            b"\n",
-            line,
-            given,
-            table,
-            patterns,
-            coefficients,
-            result,
-            out,
-            progress,
-        );
+        let ended = take_piece(b"\n", line, out, progress);
         let all = ended.gathered;
-        io::write_all(STDOUT_FILENO, &out[..all]);
+        io::write_all(STDOUT_FILENO, &out[0..all]);
         return;
     }
     let gathered = progress.gathered;
-    io::write_all(STDOUT_FILENO, &out[..gathered]);
+    io::write_all(STDOUT_FILENO, &out[0..gathered]);
 }
 
 fn main() {
     let mut piece = io::large_buffer();
     let mut line = [0u8; LONGEST_LINE + 1];
-    let mut given = [0u8; MOST_GIVEN];
-    let mut table = [0i64; MOST_WORDS];
-    let mut patterns = [0u64; MOST_WORDS];
-    let mut coefficients = [0i64; MOST_WORDS];
-    let mut result = [0u8; MOST_BYTES];
     let mut out = [0u8; MOST_GATHERED];
-    let progress = replay(
-        &mut piece,
-        &mut line,
-        &mut given,
-        &mut table,
-        &mut patterns,
-        &mut coefficients,
-        &mut result,
-        &mut out,
-    );
-    finish(
-        &mut line,
-        &mut given,
-        &mut table,
-        &mut patterns,
-        &mut coefficients,
-        &mut result,
-        &mut out,
-        progress,
-    );
+    let progress = replay(&mut piece, &mut line, &mut out);
+    finish(&mut line, &mut out, progress);
 }

@@ -1,8 +1,12 @@
 // Cases of unpacking and of packing.
 use crate::MOST_BYTES;
+use crate::MOST_GIVEN;
 use crate::MOST_WORDS;
 use crate::fields;
 use crate::fields::Field;
+use crate::fields::Form;
+use crate::fields::Lengths;
+use crate::fields::Taken;
 use crate::filling;
 use crate::lines;
 use crate::telling;
@@ -28,28 +32,27 @@ fn unpack_bytes(
 }
 
 // unpack BYTES LEN LEN
-pub(crate) fn unpack(
-    line: &[u8],
-    at: usize,
-    given: &mut [u8],
-    patterns: &mut [u64],
-    coefficients: &mut [i64],
-    out: &mut [u8],
-) -> usize
-    requires { ⌜ mostWords ≤ length (now patterns) ⌝ }
-    requires { ⌜ mostWords ≤ length (now coefficients) ⌝ }
+pub(crate) fn unpack(line: &[u8], at: usize, out: &mut [u8]) -> usize
     requires { ⌜ mostAnswer ≤ length (now out) ⌝ }
     ensures { λ r. ⌜ r ≤ mostAnswer ⌝ }
 {
-    let Field::Got(end, next) = fields::bytes(line, at, given, 0) else {
+    let mut given = [0u8; MOST_GIVEN];
+    let mut patterns = [0u64; MOST_WORDS];
+    let mut coefficients = [0i64; MOST_WORDS];
+    let form = Form {
+        bytes: 1,
+        numbers: 0,
+        result: false,
+        patterns: true,
+        coefficients: true,
+    };
+    let Taken::Is(case) = fields::take(line, at, form, &mut given) else {
         return lines::unknown(out);
     };
-    let Field::Got(p, after) = fields::number(line, next, MOST_WORDS) else {
-        return lines::unknown(out);
-    };
-    let Field::Got(c, _) = fields::last_number(line, after, MOST_WORDS) else {
-        return lines::unknown(out);
-    };
+    let ends = case.ends;
+    let end = ends.first;
+    let p = case.patterns;
+    let c = case.coefficients;
     unpack_bytes(
         &given[..end],
         &mut patterns[..p],
@@ -75,28 +78,23 @@ fn pack_terms(
 }
 
 // pack N WORDS WORDS LEN
-pub(crate) fn pack(
-    line: &[u8],
-    at: usize,
-    patterns: &mut [u64],
-    coefficients: &mut [i64],
-    result: &mut [u8],
-    out: &mut [u8],
-) -> usize
-    requires { ⌜ mostBytes ≤ length (now result) ⌝ }
+pub(crate) fn pack(line: &[u8], at: usize, out: &mut [u8]) -> usize
     requires { ⌜ mostAnswer ≤ length (now out) ⌝ }
     ensures { λ r. ⌜ r ≤ mostAnswer ⌝ }
 {
+    let mut patterns = [0u64; MOST_WORDS];
+    let mut coefficients = [0i64; MOST_WORDS];
+    let mut result = [0u8; MOST_BYTES];
     let Field::Got(count, next) = fields::number(line, at, 18446744073709551615) else {
         return lines::unknown(out);
     };
-    let Field::Got(p, after) = fields::words(line, next, patterns) else {
+    let Field::Got(p, after) = fields::words(line, next, &mut patterns) else {
         return lines::unknown(out);
     };
-    let Field::Got(c, last) = fields::signed_words(line, after, coefficients) else {
+    let Field::Got(c, last) = fields::signed_words(line, after, &mut coefficients) else {
         return lines::unknown(out);
     };
-    let Field::Got(r, _) = fields::last_number(line, last, MOST_BYTES) else {
+    let Lengths::Are(r, _, _) = fields::area_lengths(line, last, true, false, false) else {
         return lines::unknown(out);
     };
     pack_terms(

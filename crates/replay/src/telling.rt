@@ -6,6 +6,7 @@ ghost use mathlib.Core.Path.{_≡_};
 ghost use Prim.Native.Nat.{_+_, _*_, _≤_};
 ghost use lib.ListN.{length};
 ghost use Rattle.answers.specs.Answers.{told as answerTold};
+ghost use Rattle.answers.specs.Host.{heard as heardTold};
 ghost use Rattle.replay.specs.Limits.{mostBytes, mostWords, mostAnswer};
 ghost use Rattle.replay.specs.Telling.{toldAs, Shows};
 
@@ -23,6 +24,27 @@ pub(crate) fn answered(answer: Answer) -> Told
         Answer::Done(n) => Told::Done(n),
         Answer::Refused(refusal, place) => Told::Refused(refusal.number(), place),
     }
+}
+
+// A refusal's number is a multiple of this: of the first if the estimate refuses, else of the second.
+const NARROW_UNIT: u64 = 65536;
+
+const WIDE_UNIT: u64 = 4294967296;
+
+// The number that a C host gets.
+pub(crate) fn heard(number: u64) -> Told
+    ensures { λ r. ⌜ toldAs r ≡ heardTold number ⌝ }
+{
+    if number < NARROW_UNIT {
+        return Told::Done(number as usize);
+    }
+    if number < WIDE_UNIT {
+        return Told::Refused(
+            (number / NARROW_UNIT) as usize,
+            (number % NARROW_UNIT) as usize,
+        );
+    }
+    Told::Refused((number / WIDE_UNIT) as usize, (number % WIDE_UNIT) as usize)
 }
 
 // A line's beginning, for an operation whose result is bytes.

@@ -1,6 +1,5 @@
 -- `substitute_list` meets its contract: what is told of the result stands within it.
 use native.Mathlib.Omega.{arith}
-use Rattle.replay.proofs.Reading.{prefix-count}
 use Rattle.replay.proofs.Shown.{shows-as, substitute-shows}
 use borrow.Author.Needs.{needs}
 use Rattle.replay.proofs.changes.substitute_list.Statement.{statement}
@@ -15,9 +14,6 @@ fill-words-requires c κs = search needs
 fill-signed-requires : tie.Need-fill-signed-requires
 fill-signed-requires c κs = search needs
 
-slice-aggregate-substitute : tie.Need-slice-aggregate-substitute
-slice-aggregate-substitute c = prefix-count (c .before .before .before .before .before .before .before .before .before .before .before .before .before .before .before .before .args .first) (c .before .before .before .before .before .before .before .before .before .before .before .before .before .before .before .before .args .given .now) (search needs)
-
 sub-substitute : tie.Need-sub-substitute
 sub-substitute c = search needs
 
@@ -27,6 +23,15 @@ part-substitute-start c = search needs
 part-substitute-end : tie.Need-part-substitute-end
 part-substitute-end c = search needs
 
+sub-substitute-2 : tie.Need-sub-substitute-2
+sub-substitute-2 c = search needs
+
+part-substitute-start-2 : tie.Need-part-substitute-start-2
+part-substitute-start-2 c = search needs
+
+part-substitute-end-2 : tie.Need-part-substitute-end-2
+part-substitute-end-2 c = search needs
+
 substitute-requires : tie.Need-substitute-requires
 substitute-requires c κs = search needs
 
@@ -35,7 +40,9 @@ answered-requires c κs = search needs
 
 tell-worked-requires : tie.Need-tell-worked-requires
 tell-worked-requires c κs =
-    (search needs, (shows-as (c .before .before .before .before .answered .ensures) (substitute-shows _ _ _ _ _ (c .before .before .before .before .before .before .before .before .before .before .substitute .ensures)), (search needs, (omega (arith, c .before .before .before .before .before .before .before .before .before .before .before .before .before .before .before .before .before .before .before .before .before .before .before .before .before .before .before .before .before .before .before .pre .1 .1 .1 .0, c .before .before .before .before .before .before .before .before .before .before .substitute .kept .1 .1 .1 .0, c .before .before .before .before .before .before .before .before .before .before .before .before .before .before .before .before .before .fill-signed .kept .0), c .before .before .before .before .before .before .before .before .before .before .before .before .before .before .before .before .before .before .before .before .before .before .before .before .before .before .before .before .before .before .before .pre .1 .1 .1 .1))))
+    let pre = c .before .before .before .before .before .before .before .before .before .before .before .before .before .before .before .before .before .before .before .before .before .before .before .before .before .before .before .before .before .before .before .pre in
+    let e = c .before .before .before .before .before .before .before .before .before .before .substitute in
+    (search needs, (shows-as (c .before .before .before .before .answered .ensures) (substitute-shows _ _ _ _ _ (e .ensures)), (search needs, (omega (arith, pre .1 .1 .1 .0, e .kept .1 .1 .1 .0, c .before .before .before .before .before .before .before .before .before .before .before .before .before .before .before .before .before .fill-signed .kept .0), pre .1 .1 .1 .1))))
 
 same-length : tie.Need-same-length
 same-length c = search needs
@@ -53,4 +60,23 @@ returns : tie.Need-returns
 returns c = search needs
 
 pub substitute-list-spec : {M : Type 1} → statement M
-substitute-list-spec = tie.close (tie.spec fill-bytes-requires fill-words-requires fill-signed-requires slice-aggregate-substitute sub-substitute part-substitute-start part-substitute-end substitute-requires answered-requires tell-worked-requires same-length same-length-2 same-length-3 same-length-4 returns)
+substitute-list-spec =
+    tie.close
+    (tie.spec
+    fill-bytes-requires
+    fill-words-requires
+    fill-signed-requires
+    sub-substitute
+    part-substitute-start
+    part-substitute-end
+    sub-substitute-2
+    part-substitute-start-2
+    part-substitute-end-2
+    substitute-requires
+    answered-requires
+    tell-worked-requires
+    same-length
+    same-length-2
+    same-length-3
+    same-length-4
+    returns)

@@ -1,15 +1,26 @@
 -- `text` meets its contract.
-use native.Mathlib.Omega.{arith}
-use Rattle.replay.proofs.Reading.{got-within, prefix-count, prefix-most}
+use Prim.Native.Nat.{ℕ}
+use lib.IntN.{pos}
+use lib.ListN.{length}
+use Rattle.replay.specs.Limits.{mostWords}
+use Rattle.replay.specs.Fields.{CaseWithin}
+use Rattle.replay.proofs.Reading.{case-within, first-inside, prefix-count, made-count, made-most}
 use borrow.Author.Needs.{needs}
 use Rattle.replay.proofs.formulas.text.Statement.{statement}
 use Rattle.replay.proofs.formulas.text.Tie as tie
 
-bytes-requires : tie.Need-bytes-requires
-bytes-requires c κs = search needs
+-- what the line says fits the areas
+case : (d : tie.After-case) → CaseWithin (length (d .before .before .before .take .last .1 .1 .1 .0)) (d .case .given .0 .0)
+case d = case-within (d .before .before .before .take .ensures) (d .case .given .1)
 
-enum-known-end : tie.Need-enum-known-end
-enum-known-end c = search needs
+slice-aggregate-take : tie.Need-slice-aggregate-take
+slice-aggregate-take c = search needs
+
+take-requires : tie.Need-take-requires
+take-requires c κs = search needs
+
+enum-known-case : tie.Need-enum-known-case
+enum-known-case c = search needs
 
 enum-told : tie.Need-enum-told
 enum-told c = search needs
@@ -20,59 +31,45 @@ unknown-requires c κs = search needs
 same-length : tie.Need-same-length
 same-length c = search needs
 
-same-length-2 : tie.Need-same-length-2
-same-length-2 c = search needs
-
 returns : tie.Need-returns
 returns c = search needs
 
-last-number-requires : tie.Need-last-number-requires
-last-number-requires c κs = search needs
+array-share-prefix-given : tie.Need-array-share-prefix-given
+array-share-prefix-given c = first-inside (case ((c .before .before)) .rising)
 
-enum-known-length : tie.Need-enum-known-length
-enum-known-length c = search needs
+slice-aggregate-read-formula : tie.Need-slice-aggregate-read-formula
+slice-aggregate-read-formula c = prefix-count _ _ (first-inside (case ((c .before .before .before)) .rising))
 
-enum-told-2 : tie.Need-enum-told-2
-enum-told-2 c = search needs
+array-borrow-prefix-table : tie.Need-array-borrow-prefix-table
+array-borrow-prefix-table c = case ((c .before .before .before)) .coefficients
 
-unknown-requires-2 : tie.Need-unknown-requires-2
-unknown-requires-2 c κs = search needs
+slice-aggregate-read-formula-2 : tie.Need-slice-aggregate-read-formula-2
+slice-aggregate-read-formula-2 c = made-count _ mostWords (pos 0) (case ((c .before .before .before .before)) .coefficients)
 
-same-length-3 : tie.Need-same-length-3
-same-length-3 c = search needs
+read-formula-requires : tie.Need-read-formula-requires
+read-formula-requires c κs = (made-most _ mostWords (pos 0) (case ((c .before .before .before .before .before)) .coefficients), c .before .before .before .before .before .before .before .before .before .before .before .before .pre)
 
-same-length-4 : tie.Need-same-length-4
-same-length-4 c = search needs
+same-length-2 : tie.Need-same-length-2
+same-length-2 c = search needs
 
 returns-2 : tie.Need-returns-2
 returns-2 c = search needs
 
-slice-reshare-prefix-read-formula : tie.Need-slice-reshare-prefix-read-formula
-slice-reshare-prefix-read-formula c = got-within (c .before .before .before .before .before .before .before .before .before .bytes .ensures) (c .before .before .before .before .before .end .given .1) .1
-
-slice-aggregate-read-formula : tie.Need-slice-aggregate-read-formula
-slice-aggregate-read-formula c = prefix-count _ _ (got-within (c .before .before .before .before .before .before .before .before .before .before .bytes .ensures) (c .before .before .before .before .before .before .end .given .1) .1)
-
-slice-relend-prefix-read-formula : tie.Need-slice-relend-prefix-read-formula
-slice-relend-prefix-read-formula c = let l = got-within (c .before .before .before .before .last-number .ensures) (c .before .before .length .given .1) .1 in omega (arith, l, c .before .before .before .before .before .before .before .before .before .before .before .before .before .before .before .pre .0)
-
-slice-aggregate-read-formula-2 : tie.Need-slice-aggregate-read-formula-2
-slice-aggregate-read-formula-2 c = let l = got-within (c .before .before .before .before .before .last-number .ensures) (c .before .before .before .length .given .1) .1 in prefix-count (c .before .before .before .length .given .0 .0) (c .before .before .before .before .before .before .before .before .before .before .before .before .before .before .before .before .args .table .now) (omega (arith, l, c .before .before .before .before .before .before .before .before .before .before .before .before .before .before .before .before .pre .0))
-
-read-formula-requires : tie.Need-read-formula-requires
-read-formula-requires c κs = let l = got-within (c .before .before .before .before .before .before .last-number .ensures) (c .before .before .before .before .length .given .1) .1 in (prefix-most (c .before .before .before .before .length .given .0 .0) (c .before .before .before .before .before .before .before .before .before .before .before .before .before .before .before .before .before .args .table .now) (omega (arith, l, c .before .before .before .before .before .before .before .before .before .before .before .before .before .before .before .before .before .pre .0)) l, c .before .before .before .before .before .before .before .before .before .before .before .before .before .before .before .before .before .pre .1)
-
-same-length-5 : tie.Need-same-length-5
-same-length-5 c = search needs
-
-same-length-6 : tie.Need-same-length-6
-same-length-6 c = search needs
-
-same-length-7 : tie.Need-same-length-7
-same-length-7 c = search needs
-
-returns-3 : tie.Need-returns-3
-returns-3 c = search needs
-
 pub text-spec : {M : Type 1} → statement M
-text-spec = tie.close (tie.spec bytes-requires enum-known-end enum-told unknown-requires same-length same-length-2 returns last-number-requires enum-known-length enum-told-2 unknown-requires-2 same-length-3 same-length-4 returns-2 slice-reshare-prefix-read-formula slice-aggregate-read-formula slice-relend-prefix-read-formula slice-aggregate-read-formula-2 read-formula-requires same-length-5 same-length-6 same-length-7 returns-3)
+text-spec =
+    tie.close
+    (tie.spec
+    slice-aggregate-take
+    take-requires
+    enum-known-case
+    enum-told
+    unknown-requires
+    same-length
+    returns
+    array-share-prefix-given
+    slice-aggregate-read-formula
+    array-borrow-prefix-table
+    slice-aggregate-read-formula-2
+    read-formula-requires
+    same-length-2
+    returns-2)
