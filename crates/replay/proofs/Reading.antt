@@ -4,7 +4,7 @@ use mathlib.Core.List.{List}
 use Prim.Native.Nat.{ℕ, suc, _+_, _*_, _-_, _/_, _%_, _^_, _≤_, _<_}
 use native.Mathlib.Omega.{arith}
 use native.Mathlib.Nat.{pow-succ', pow-le-pow-right}
-use lib.ListN.{length, take, replicate, length-replicate}
+use lib.ListN.{length, take}
 use lib.Seq.{length-take-le}
 use Rattle.io.specs.Digits.{glyph}
 use Rattle.replay.specs.Limits.{mostBytes, mostWords}
@@ -79,10 +79,13 @@ module _ {A : Type 0} (n : ℕ) (area : List A) (inside : n ≤ length area) whe
   pub prefix-most : {most : ℕ} → n ≤ most → length (take n area) ≤ most
   prefix-most h = rw (length-take-le n area inside) h
 
--- of one that was made, and not written yet
-module _ {A : Type 0} (n all : ℕ) (a : A) (inside : n ≤ all) where
-  pub made-count : n ≡ length (take n (replicate all a))
-  made-count = prefix-count n (replicate all a) (rw (length-replicate all a) inside)
+-- of one that was made so long
+pub made-inside : {all long n : ℕ} → all ≡ long → n ≤ all → n ≤ long
+made-inside made inside = omega (arith, made, inside)
 
-  pub made-most : length (take n (replicate all a)) ≤ all
-  made-most = rw (sym made-count) inside
+module _ {A : Type 0} {all n : ℕ} (area : List A) (made : all ≡ length area) (inside : n ≤ all) where
+  pub made-count : n ≡ length (take n area)
+  made-count = prefix-count n area (made-inside made inside)
+
+  pub made-most : length (take n area) ≤ all
+  made-most = prefix-most n area (made-inside made inside) inside

@@ -1,4 +1,4 @@
--- What an operation says that it wrote stands within its area.
+-- What each operation says that it wrote stands within its area.
 use mathlib.Core.Path.{_≡_, refl, sym, ap, _∙_}
 use mathlib.Core.Bool.{Bool, true, false, _&&_}
 use mathlib.Core.List.{List, []}
@@ -37,40 +37,8 @@ use Rattle.text.specs.Tree.{Tree, nodesOf}
 use Rattle.text.specs.Limits.{tablePlaces}
 use Rattle.text.specs.Text.{judgeText, tableInto, readFormula}
 use Rattle.text.proofs.Trees.{nodes-length}
-use Rattle.replay.specs.Telling.{toldAs, Shows}
-use Rattle.replay.specs.declared.telling.Told as code
-use Rattle.replay.specs.declared.telling.Told.the-variants.{Done}
-
--- as many places as the number returned
-abbrev pub itself : ℕ → ℕ
-itself n = n
-
-pub shows-done : {places : ℕ → ℕ} {most n : ℕ} {t : code.Told} → Shows places most (toldAs t) → t ≡ Done n → places n ≤ most
-shows-done h e = rw e at (h .inside)
-
-pub shows-as : {places : ℕ → ℕ} {most : ℕ} {t u : Told} → t ≡ u → Shows places most u → Shows places most t
-shows-as e h = rw e h
-
--- ---- Two kinds of outcomes.
-
-shows-refused : {A : Type 0} {places : ℕ → ℕ} {most refusal place : ℕ} {t : Told} {x y : A} → outcome t x ≡ outcome (refused refusal place) y → Shows places most t
-shows-refused {A} e = shows-as (ap (λ (o : Outcome A). o .answer) e) (record { inside = tt })
-
--- values that were written stand within the area
-within : {A : Type 0} (values area : List A) {x : List A} {n : ℕ} → x ≡ written values area → length values ≡ n → n ≤ length x
-within values area e many = omega (arith, ap length e, length-append values (drop (length values) area), many)
-
-shows-written : {A : Type 0} {places : ℕ → ℕ} (values area : List A) {t : Told} {x : List A} {n : ℕ} → outcome t x ≡ outcome (done n) (written values area)
-    → length values ≡ places n → Shows places (length x) t
-shows-written {A} values area e many =
-    shows-as (ap (λ (o : Outcome (List A)). o .answer) e) (record { inside = within values area (ap (λ (o : Outcome (List A)). o .areas) e) many })
-
--- ---- The operations.
-
-module _ {A : Type 0} {places : ℕ → ℕ} {most : ℕ} {t : Told} {x : A} where
-  checked : (b : Bool) (refusal place : ℕ) (y : A) (rest : Outcome A) → (outcome t x ≡ rest → Shows places most t) → outcome t x ≡ check b refusal place y rest → Shows places most t
-  checked true refusal place y rest f e = f e
-  checked false refusal place y rest f e = shows-refused e
+use Rattle.replay.specs.Telling.{Shows}
+use Rattle.replay.proofs.Shows.{itself, shows-refused, shows-written, checked}
 
 packed-shows : (j : Judged Sum) (area : List ℕ) {t : Told} {x : List ℕ} → outcome t x ≡ packedInto j area → Shows itself (length x) t
 unfolding packedInto

@@ -11,3 +11,13 @@ mostWords = 9000
 -- bytes of an answer's line
 abbrev pub mostAnswer : ℕ
 mostAnswer = 2 * 16 * mostWords + 128
+
+-- of the area for a line, of that for its fields of bytes, and of that where answers are gathered
+abbrev pub mostLine : ℕ
+mostLine = 65537
+
+abbrev pub mostGiven : ℕ
+mostGiven = 32768
+
+abbrev pub mostGathered : ℕ
+mostGathered = 65536 + mostAnswer

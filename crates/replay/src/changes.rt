@@ -1,7 +1,5 @@
 // Cases of substitution.
-use crate::MOST_BYTES;
-use crate::MOST_GIVEN;
-use crate::MOST_WORDS;
+use crate::areas;
 use crate::fields;
 use crate::fields::Ends;
 use crate::fields::Form;
@@ -50,10 +48,10 @@ pub(crate) fn substitute(line: &[u8], at: usize, out: &mut [u8]) -> usize
     requires { ⌜ mostAnswer ≤ length (now out) ⌝ }
     ensures { λ r. ⌜ r ≤ mostAnswer ⌝ }
 {
-    let mut given = [0u8; MOST_GIVEN];
-    let mut result = [0u8; MOST_BYTES];
-    let mut patterns = [0u64; MOST_WORDS];
-    let mut coefficients = [0i64; MOST_WORDS];
+    let mut given = areas::given();
+    let mut result = areas::bytes();
+    let mut patterns = areas::words();
+    let mut coefficients = areas::signed_words();
     let form = Form {
         bytes: 2,
         numbers: 0,

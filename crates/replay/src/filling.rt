@@ -116,7 +116,8 @@ pub(crate) fn signed_stay(area: &[i64], from: usize) -> bool
 
 fn words_zero(area: &[u64], count: usize) -> bool
     requires { ⌜ count ≤ length (now area) ⌝ }
-    ensures { λ r. ⌜ (r ≡ true → Holds 0 (λ i. 0) 0 count (now (area .entry))) × (Holds 0 (λ i. 0) 0 count (now (area .entry)) → r ≡ true) ⌝ }
+    ensures { λ r. ⌜ (r ≡ true → Holds 0 (λ i. 0) 0 count (now (area .entry)))
+        × (Holds 0 (λ i. 0) 0 count (now (area .entry)) → r ≡ true) ⌝ }
 {
     let mut i = 0;
     while i < count {

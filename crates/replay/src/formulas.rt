@@ -1,7 +1,5 @@
 // Cases of typed formulas and of tables.
-use crate::MOST_BYTES;
-use crate::MOST_GIVEN;
-use crate::MOST_WORDS;
+use crate::areas;
 use crate::fields;
 use crate::fields::Field;
 use crate::fields::Form;
@@ -29,8 +27,8 @@ pub(crate) fn text(line: &[u8], at: usize, out: &mut [u8]) -> usize
     requires { ⌜ mostAnswer ≤ length (now out) ⌝ }
     ensures { λ r. ⌜ r ≤ mostAnswer ⌝ }
 {
-    let mut given = [0u8; MOST_GIVEN];
-    let mut table = [0i64; MOST_WORDS];
+    let mut given = areas::given();
+    let mut table = areas::signed_words();
     let form = Form {
         bytes: 1,
         numbers: 0,
@@ -72,10 +70,10 @@ pub(crate) fn simplify(line: &[u8], at: usize, out: &mut [u8]) -> usize
     requires { ⌜ mostAnswer ≤ length (now out) ⌝ }
     ensures { λ r. ⌜ r ≤ mostAnswer ⌝ }
 {
-    let mut table = [0i64; MOST_WORDS];
-    let mut result = [0u8; MOST_BYTES];
-    let mut patterns = [0u64; MOST_WORDS];
-    let mut coefficients = [0i64; MOST_WORDS];
+    let mut table = areas::signed_words();
+    let mut result = areas::bytes();
+    let mut patterns = areas::words();
+    let mut coefficients = areas::signed_words();
     let Field::Got(count, next) = fields::signed_words(line, at, &mut table) else {
         return lines::unknown(out);
     };

@@ -1,19 +1,20 @@
 // Reads cases from standard input, one on each line, runs each on the library, and writes a line of what came back.
-// Begin with docs/REPLAY.md, which has the lines, then with `main` and `cases`.
+// Begin with docs/REPLAY.md, which has the lines, then with `main` and `operations`.
 use libc::STDIN_FILENO;
 use libc::STDOUT_FILENO;
-ghost use Prim.Native.Nat.{_+_, _*_, _≤_};
+ghost use Prim.Native.Nat.{_+_, _≤_};
 ghost use lib.ListN.{length};
-ghost use Rattle.replay.specs.Limits.{mostAnswer};
+ghost use Rattle.replay.specs.Limits.{mostAnswer, mostGathered};
 ghost use Rattle.replay.specs.Gathering.{Gathers};
 
-mod cases;
+mod areas;
 mod changes;
 mod digits;
 mod fields;
 mod filling;
 mod formulas;
 mod lines;
+mod operations;
 mod packing;
 mod results;
 mod telling;
@@ -32,8 +33,10 @@ const MOST_GIVEN: usize = LONGEST_LINE / 2;
 // An answer with two areas of words written in full, and what stands beside them.
 const MOST_ANSWER: usize = 2 * 16 * MOST_WORDS + 128;
 
-// Answers are gathered before they are written.
-const MOST_GATHERED: usize = 2 * MOST_ANSWER;
+// Answers are gathered, and written once they are longer than this.
+const ENOUGH: usize = 65536;
+
+const MOST_GATHERED: usize = ENOUGH + MOST_ANSWER;
 
 // How far it has come: the bytes of the line that has begun, and of the answers that are not written yet.
 struct Progress {
@@ -55,11 +58,11 @@ fn add_byte(line: &mut [u8], held: usize, byte: u8) -> usize
 
 // Writes what is gathered when another answer might not find room.
 fn make_room(out: &[u8], gathered: usize) -> usize
-    requires { ⌜ 2 * mostAnswer ≤ length (now out) ⌝ }
+    requires { ⌜ mostGathered ≤ length (now out) ⌝ }
     requires { ⌜ gathered ≤ length (now out) ⌝ }
     ensures { λ r. ⌜ r + mostAnswer ≤ length (now (out .entry)) ⌝ }
 {
-    if gathered > MOST_ANSWER {
+    if gathered > ENOUGH {
         io::write_all(STDOUT_FILENO, &out[0..gathered]);
         return 0;
     }
@@ -68,7 +71,7 @@ fn make_room(out: &[u8], gathered: usize) -> usize
 
 // A piece of the input, byte by byte: at the end of each line its answer is gathered.
 fn take_piece(piece: &[u8], line: &mut [u8], out: &mut [u8], progress: Progress) -> Progress
-    requires { ⌜ 2 * mostAnswer ≤ length (now out) ⌝ }
+    requires { ⌜ mostGathered ≤ length (now out) ⌝ }
     requires { ⌜ Gathers (now line) (progress .line) (now out) (progress .gathered) ⌝ }
     ensures { λ r. ⌜ Gathers (now (line .exit)) (r .line) (now (out .exit)) (r .gathered) ⌝ }
 {
@@ -77,7 +80,7 @@ fn take_piece(piece: &[u8], line: &mut [u8], out: &mut [u8], progress: Progress)
     let mut i = 0;
     while i < piece.len() {
         if piece[i] == b'\n' {
-            let end = cases::answer(&line[0..held], &mut out[gathered..]);
+            let end = operations::answer(&line[0..held], &mut out[gathered..]);
             gathered = make_room(out, gathered + end);
             held = 0;
             i += 1;
@@ -94,7 +97,7 @@ fn take_piece(piece: &[u8], line: &mut [u8], out: &mut [u8], progress: Progress)
 
 // The input to its end. The pieces are counted down from more than there can be, so that this ends.
 fn replay(piece: &mut [u8], line: &mut [u8], out: &mut [u8]) -> Progress
-    requires { ⌜ 2 * mostAnswer ≤ length (now out) ⌝ }
+    requires { ⌜ mostGathered ≤ length (now out) ⌝ }
     ensures { λ r. ⌜ Gathers (now (line .exit)) (r .line) (now (out .exit)) (r .gathered) ⌝ }
 {
     let mut progress = Progress {
@@ -115,7 +118,7 @@ fn replay(piece: &mut [u8], line: &mut [u8], out: &mut [u8]) -> Progress
 
 // A last line without a newline is ended by one.
 fn finish(line: &mut [u8], out: &mut [u8], progress: Progress)
-    requires { ⌜ 2 * mostAnswer ≤ length (now out) ⌝ }
+    requires { ⌜ mostGathered ≤ length (now out) ⌝ }
     requires { ⌜ Gathers (now line) (progress .line) (now out) (progress .gathered) ⌝ }
 {
     if progress.line > 0 {
@@ -130,8 +133,8 @@ fn finish(line: &mut [u8], out: &mut [u8], progress: Progress)
 
 fn main() {
     let mut piece = io::large_buffer();
-    let mut line = [0u8; LONGEST_LINE + 1];
-    let mut out = [0u8; MOST_GATHERED];
+    let mut line = areas::line();
+    let mut out = areas::answers();
     let progress = replay(&mut piece, &mut line, &mut out);
     finish(&mut line, &mut out, progress);
 }

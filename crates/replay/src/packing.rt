@@ -1,7 +1,5 @@
 // Cases of unpacking and of packing.
-use crate::MOST_BYTES;
-use crate::MOST_GIVEN;
-use crate::MOST_WORDS;
+use crate::areas;
 use crate::fields;
 use crate::fields::Field;
 use crate::fields::Form;
@@ -36,9 +34,9 @@ pub(crate) fn unpack(line: &[u8], at: usize, out: &mut [u8]) -> usize
     requires { ⌜ mostAnswer ≤ length (now out) ⌝ }
     ensures { λ r. ⌜ r ≤ mostAnswer ⌝ }
 {
-    let mut given = [0u8; MOST_GIVEN];
-    let mut patterns = [0u64; MOST_WORDS];
-    let mut coefficients = [0i64; MOST_WORDS];
+    let mut given = areas::given();
+    let mut patterns = areas::words();
+    let mut coefficients = areas::signed_words();
     let form = Form {
         bytes: 1,
         numbers: 0,
@@ -82,9 +80,9 @@ pub(crate) fn pack(line: &[u8], at: usize, out: &mut [u8]) -> usize
     requires { ⌜ mostAnswer ≤ length (now out) ⌝ }
     ensures { λ r. ⌜ r ≤ mostAnswer ⌝ }
 {
-    let mut patterns = [0u64; MOST_WORDS];
-    let mut coefficients = [0i64; MOST_WORDS];
-    let mut result = [0u8; MOST_BYTES];
+    let mut patterns = areas::words();
+    let mut coefficients = areas::signed_words();
+    let mut result = areas::bytes();
     let Field::Got(count, next) = fields::number(line, at, 18446744073709551615) else {
         return lines::unknown(out);
     };

@@ -1,6 +1,5 @@
-// Cases of operations on bytes and numbers that write bytes. A further one is a name and a form in `cases`, and a call here.
-use crate::MOST_BYTES;
-use crate::MOST_GIVEN;
+// Cases of operations on bytes and numbers that write bytes. A further one is a name and a form in `operations`, and a call here.
+use crate::areas;
 use crate::fields;
 use crate::fields::Case;
 use crate::fields::Form;
@@ -75,8 +74,8 @@ pub(crate) fn answer(
     requires { ⌜ mostAnswer ≤ length (now out) ⌝ }
     ensures { λ r. ⌜ r ≤ mostAnswer ⌝ }
 {
-    let mut given = [0u8; MOST_GIVEN];
-    let mut result = [0u8; MOST_BYTES];
+    let mut given = areas::given();
+    let mut result = areas::bytes();
     let form = Form {
         bytes: bytes,
         numbers: numbers,

@@ -1,58 +1,42 @@
 -- `main` is safe: every area is as long as the cases need it.
-use mathlib.Core.Path.{_≡_, sym, _∙_}
-use Prim.Native.Nat.{ℕ, _*_, _≤_}
-use native.Mathlib.Nat.{le-refl}
-use lib.ListN.{length, replicate, length-replicate}
-use Rattle.replay.specs.Limits.{mostAnswer}
+use mathlib.Core.Path.{sym, _∙_}
+use native.Mathlib.Omega.{arith}
 use borrow.Author.Needs.{needs}
 use Rattle.replay.proofs.main.Statement.{statement}
 use Rattle.replay.proofs.main.Tie as tie
 
-made : (n : ℕ) → n ≡ length {A = ℕ} (replicate n 0)
-made n = sym (length-replicate n 0)
-
-wide : 2 * mostAnswer ≤ length {A = ℕ} (replicate (2 * mostAnswer) 0)
-wide = rw (length-replicate {A = ℕ} (2 * mostAnswer) 0) (le-refl (2 * mostAnswer))
-
 large-buffer-requires : tie.Need-large-buffer-requires
 large-buffer-requires c κs = search needs
 
+line-requires : tie.Need-line-requires
+line-requires c κs = search needs
+
+answers-requires : tie.Need-answers-requires
+answers-requires c κs = search needs
+
 slice-aggregate-replay : tie.Need-slice-aggregate-replay
-slice-aggregate-replay c = c .before .large-buffer .ensures
+slice-aggregate-replay c = c .before .before .before .large-buffer .ensures
 
 slice-aggregate-replay-2 : tie.Need-slice-aggregate-replay-2
-slice-aggregate-replay-2 c = made 65537
+slice-aggregate-replay-2 c = c .before .before .before .line .ensures
 
 slice-aggregate-replay-3 : tie.Need-slice-aggregate-replay-3
-slice-aggregate-replay-3 c = made (2 * mostAnswer)
+slice-aggregate-replay-3 c = c .before .before .before .answers .ensures
 
 replay-requires : tie.Need-replay-requires
-replay-requires c κs = wide
+replay-requires c κs = omega (arith, c .before .before .before .answers .ensures)
 
 slice-aggregate-finish : tie.Need-slice-aggregate-finish
-slice-aggregate-finish c = sym (c .before .before .before .before .replay .kept .1 .0 ∙ length-replicate {A = ℕ} 65537 0)
+slice-aggregate-finish c = c .before .before .before .before .before .before .before .before .before .line .ensures ∙ sym (c .before .before .before .before .replay .kept .1 .0)
 
 slice-aggregate-finish-2 : tie.Need-slice-aggregate-finish-2
-slice-aggregate-finish-2 c = sym (c .before .before .before .before .before .replay .kept .1 .1 .0 ∙ length-replicate {A = ℕ} (2 * mostAnswer) 0)
+slice-aggregate-finish-2 c = c .before .before .before .before .before .before .before .before .before .answers .ensures ∙ sym (c .before .before .before .before .before .replay .kept .1 .1 .0)
 
 finish-requires : tie.Need-finish-requires
-finish-requires c κs =
-    let replay = c .before .before .before .before .before .replay in
-    (rw (replay .kept .1 .1 .0) wide, replay .ensures)
+finish-requires c κs = (omega (arith, c .before .before .before .before .before .replay .kept .1 .1 .0, c .before .before .before .before .before .before .before .before .before .answers .ensures), c .before .before .before .before .before .replay .ensures)
 
 returns : tie.Need-returns
 returns c = search needs
 
 pub main-spec : {M : Type 1} → statement M
-main-spec =
-    tie.close
-    (tie.spec
-    large-buffer-requires
-    slice-aggregate-replay
-    slice-aggregate-replay-2
-    slice-aggregate-replay-3
-    replay-requires
-    slice-aggregate-finish
-    slice-aggregate-finish-2
-    finish-requires
-    returns)
+main-spec = tie.close (tie.spec large-buffer-requires line-requires answers-requires slice-aggregate-replay slice-aggregate-replay-2 slice-aggregate-replay-3 replay-requires slice-aggregate-finish slice-aggregate-finish-2 finish-requires returns)

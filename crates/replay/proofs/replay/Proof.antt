@@ -47,7 +47,8 @@ part-take-piece-end c = search needs
 take-piece-requires : tie.Need-take-piece-requires Inv-loop μ-loop
 take-piece-requires c κs =
     let inv = c .before .before .before .before .before .before .before .before .before .before .before .before .loop .inv in
-    (omega (arith, inv .2, c .before .before .before .before .before .before .before .before .before .before .before .before .before .before .before .before .pre), inv .3)
+    let pre = c .before .before .before .before .before .before .before .before .before .before .before .before .before .before .before .before .pre in
+    (omega (arith, inv .2, pre), inv .3)
 
 sub-left : tie.Need-sub-left Inv-loop μ-loop
 sub-left c = search needs
@@ -59,7 +60,8 @@ loop-again : tie.Need-loop-again Inv-loop μ-loop
 loop-again c =
     let inv = c .before .before .before .before .before .before .before .before .before .before .before .before .before .before .before .before .before .loop .inv in
     let take = c .before .before .before .before .take-piece in
-    (c .before .before .before .before .before .before .before .before .before .before .before .before .before .before .read .kept .1 .0 ∙ inv .0, take .kept .1 .0 ∙ inv .1, take .kept .1 .1 .0 ∙ inv .2, take .ensures)
+    let read = c .before .before .before .before .before .before .before .before .before .before .before .before .before .before .read in
+    (read .kept .1 .0 ∙ inv .0, take .kept .1 .0 ∙ inv .1, take .kept .1 .1 .0 ∙ inv .2, take .ensures)
 
 same-length-4 : tie.Need-same-length-4 Inv-loop μ-loop
 same-length-4 c = c .before .loop .inv .0

@@ -54,13 +54,15 @@ answer-requires c κs = rest-room (c .before .before .before .before .before .be
 add-make-room : tie.Need-add-make-room Inv-loop μ-loop
 add-make-room c =
     let loop = c .before .before .before .before .before .before .before .before .before .before .loop in
-    record { fits = omega (arith, c .before .before .before .answer .ensures, loop .inv .3 .room, loop .inv .2, c .before .before .before .before .before .before .before .before .before .before .before .before .before .before .good) }
+    let good = c .before .before .before .before .before .before .before .before .before .before .before .before .before .before .good in
+    record { fits = omega (arith, c .before .before .before .answer .ensures, loop .inv .3 .room, loop .inv .2, good) }
 
 make-room-requires : tie.Need-make-room-requires Inv-loop μ-loop
 make-room-requires c κs =
     let same = back ((c .before .before .before)) in
     let loop = c .before .before .before .before .before .before .before .before .before .before .loop in
-    (omega (arith, same, loop .inv .2, c .before .before .before .before .before .before .before .before .before .before .before .before .before .before .pre .0), omega (arith, same, c .before .before .before .answer .ensures, loop .inv .3 .room))
+    let pre = c .before .before .before .before .before .before .before .before .before .before .before .before .before .before .pre in
+    (omega (arith, same, loop .inv .2, pre .0), omega (arith, same, c .before .before .before .answer .ensures, loop .inv .3 .room))
 
 add-i : tie.Need-add-i Inv-loop μ-loop
 add-i c = search needs

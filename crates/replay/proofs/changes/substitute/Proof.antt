@@ -1,10 +1,7 @@
 -- `substitute` meets its contract.
-use Prim.Native.Nat.{ℕ}
-use lib.IntN.{pos}
 use lib.ListN.{length}
-use Rattle.replay.specs.Limits.{mostBytes, mostWords}
 use Rattle.replay.specs.Fields.{CaseWithin}
-use Rattle.replay.proofs.Reading.{case-within, made-count, made-most}
+use Rattle.replay.proofs.Reading.{case-within, made-inside, made-count, made-most}
 use borrow.Author.Needs.{needs}
 use Rattle.replay.proofs.changes.substitute.Statement.{statement}
 use Rattle.replay.proofs.changes.substitute.Tie as tie
@@ -12,6 +9,18 @@ use Rattle.replay.proofs.changes.substitute.Tie as tie
 -- what the line says fits the areas
 case : (d : tie.After-case) → CaseWithin (length (d .before .before .before .take .last .1 .1 .1 .0)) (d .case .given .0 .0)
 case d = case-within (d .before .before .before .take .ensures) (d .case .given .1)
+
+given-requires : tie.Need-given-requires
+given-requires c κs = search needs
+
+bytes-requires : tie.Need-bytes-requires
+bytes-requires c κs = search needs
+
+words-requires : tie.Need-words-requires
+words-requires c κs = search needs
+
+signed-words-requires : tie.Need-signed-words-requires
+signed-words-requires c κs = search needs
 
 slice-aggregate-take : tie.Need-slice-aggregate-take
 slice-aggregate-take c = search needs
@@ -38,27 +47,31 @@ slice-aggregate-substitute-list : tie.Need-slice-aggregate-substitute-list
 slice-aggregate-substitute-list c = search needs
 
 array-borrow-prefix-result : tie.Need-array-borrow-prefix-result
-array-borrow-prefix-result c = case ((c .before .before .before)) .result
+array-borrow-prefix-result c = let d = c .before .before .before in made-inside (d .before .before .before .before .before .before .before .bytes .ensures) (case d .result)
 
 slice-aggregate-substitute-list-2 : tie.Need-slice-aggregate-substitute-list-2
-slice-aggregate-substitute-list-2 c = made-count {A = ℕ} _ mostBytes 0 (case ((c .before .before .before .before)) .result)
+slice-aggregate-substitute-list-2 c = let d = c .before .before .before .before in made-count _ (d .before .before .before .before .before .before .before .bytes .ensures) (case d .result)
 
 array-borrow-prefix-patterns : tie.Need-array-borrow-prefix-patterns
-array-borrow-prefix-patterns c = case ((c .before .before .before .before)) .patterns
+array-borrow-prefix-patterns c = let d = c .before .before .before .before in made-inside (d .before .before .before .before .before .before .words .ensures) (case d .patterns)
 
 slice-aggregate-substitute-list-3 : tie.Need-slice-aggregate-substitute-list-3
-slice-aggregate-substitute-list-3 c = made-count {A = ℕ} _ mostWords 0 (case ((c .before .before .before .before .before)) .patterns)
+slice-aggregate-substitute-list-3 c = let d = c .before .before .before .before .before in made-count _ (d .before .before .before .before .before .before .words .ensures) (case d .patterns)
 
 array-borrow-prefix-coefficients : tie.Need-array-borrow-prefix-coefficients
-array-borrow-prefix-coefficients c = case ((c .before .before .before .before .before)) .coefficients
+array-borrow-prefix-coefficients c = let d = c .before .before .before .before .before in made-inside (d .before .before .before .before .before .signed-words .ensures) (case d .coefficients)
 
 slice-aggregate-substitute-list-4 : tie.Need-slice-aggregate-substitute-list-4
-slice-aggregate-substitute-list-4 c = made-count _ mostWords (pos 0) (case ((c .before .before .before .before .before .before)) .coefficients)
+slice-aggregate-substitute-list-4 c = let d = c .before .before .before .before .before .before in made-count _ (d .before .before .before .before .before .signed-words .ensures) (case d .coefficients)
 
 substitute-list-requires : tie.Need-substitute-list-requires
 substitute-list-requires c κs =
-    let within = case ((c .before .before .before .before .before .before .before)) in
-    (within .rising, (made-most {A = ℕ} _ mostBytes 0 (within .result), (made-most {A = ℕ} _ mostWords 0 (within .patterns), (made-most _ mostWords (pos 0) (within .coefficients), c .before .before .before .before .before .before .before .before .before .before .before .before .before .before .pre))))
+    let d = c .before .before .before .before .before .before .before in
+    let made = d .before .before .before .before .before in
+    let result = made-most _ (made .before .before .bytes .ensures) (case d .result) in
+    let patterns = made-most _ (made .before .words .ensures) (case d .patterns) in
+    let coefficients = made-most _ (made .signed-words .ensures) (case d .coefficients) in
+    (case d .rising, (result, (patterns, (coefficients, made .before .before .before .before .before .before .pre))))
 
 same-length-2 : tie.Need-same-length-2
 same-length-2 c = search needs
@@ -67,23 +80,4 @@ returns-2 : tie.Need-returns-2
 returns-2 c = search needs
 
 pub substitute-spec : {M : Type 1} → statement M
-substitute-spec =
-    tie.close
-    (tie.spec
-    slice-aggregate-take
-    take-requires
-    enum-known-case
-    enum-told
-    unknown-requires
-    same-length
-    returns
-    slice-aggregate-substitute-list
-    array-borrow-prefix-result
-    slice-aggregate-substitute-list-2
-    array-borrow-prefix-patterns
-    slice-aggregate-substitute-list-3
-    array-borrow-prefix-coefficients
-    slice-aggregate-substitute-list-4
-    substitute-list-requires
-    same-length-2
-    returns-2)
+substitute-spec = tie.close (tie.spec given-requires bytes-requires words-requires signed-words-requires slice-aggregate-take take-requires enum-known-case enum-told unknown-requires same-length returns slice-aggregate-substitute-list array-borrow-prefix-result slice-aggregate-substitute-list-2 array-borrow-prefix-patterns slice-aggregate-substitute-list-3 array-borrow-prefix-coefficients slice-aggregate-substitute-list-4 substitute-list-requires same-length-2 returns-2)

@@ -1,6 +1,7 @@
 -- `substitute_list` meets its contract: what is told of the result stands within it.
 use native.Mathlib.Omega.{arith}
-use Rattle.replay.proofs.Shown.{shows-as, substitute-shows}
+use Rattle.replay.proofs.Shows.{shows-as}
+use Rattle.replay.proofs.Shown.{substitute-shows}
 use borrow.Author.Needs.{needs}
 use Rattle.replay.proofs.changes.substitute_list.Statement.{statement}
 use Rattle.replay.proofs.changes.substitute_list.Tie as tie
@@ -41,8 +42,9 @@ answered-requires c κs = search needs
 tell-worked-requires : tie.Need-tell-worked-requires
 tell-worked-requires c κs =
     let pre = c .before .before .before .before .before .before .before .before .before .before .before .before .before .before .before .before .before .before .before .before .before .before .before .before .before .before .before .before .before .before .before .pre in
+    let filled = c .before .before .before .before .before .before .before .before .before .before .before .before .before .before .before .before .before .fill-signed in
     let e = c .before .before .before .before .before .before .before .before .before .before .substitute in
-    (search needs, (shows-as (c .before .before .before .before .answered .ensures) (substitute-shows _ _ _ _ _ (e .ensures)), (search needs, (omega (arith, pre .1 .1 .1 .0, e .kept .1 .1 .1 .0, c .before .before .before .before .before .before .before .before .before .before .before .before .before .before .before .before .before .fill-signed .kept .0), pre .1 .1 .1 .1))))
+    (search needs, (shows-as (c .before .before .before .before .answered .ensures) (substitute-shows _ _ _ _ _ (e .ensures)), (search needs, (omega (arith, pre .1 .1 .1 .0, e .kept .1 .1 .1 .0, filled .kept .0), pre .1 .1 .1 .1))))
 
 same-length : tie.Need-same-length
 same-length c = search needs

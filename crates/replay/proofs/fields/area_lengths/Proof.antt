@@ -45,7 +45,8 @@ returns-4 c = search needs
 
 returns-5 : tie.Need-returns-5
 returns-5 c =
-    let result = got-within (c .before .before .before .before .before .before .before .before .before .before .before .before .area-length .ensures) (c .before .before .before .before .before .before .before .before .before .before .r .given .1) .1 in
+    let r = c .before .before .before .before .before .before .before .before .before .before in
+    let result = got-within (r .before .before .area-length .ensures) (r .r .given .1) .1 in
     let patterns = got-within (c .before .before .before .before .before .before .before .before .area-length2 .ensures) (c .before .before .before .before .before .before .p .given .1) .1 in
     let coefficients = got-within (c .before .before .before .before .area-length3 .ensures) (c .before .before .c .given .1) .1 in
     record { inside = (result, patterns, coefficients) }

@@ -54,7 +54,8 @@ same-length-4 c = search needs
 
 returns-4 : tie.Need-returns-4
 returns-4 c =
-    let rising = parts-within (c .before .before .before .before .before .before .before .before .before .before .before .before .before .byte-fields .ensures) (c .before .before .before .before .before .before .before .before .before .ends .given .1) in
+    let ends = c .before .before .before .before .before .before .before .before .before in
+    let rising = parts-within (ends .before .before .before .before .byte-fields .ensures) (ends .ends .given .1) in
     let lengths = lengths-within (c .before .before .before .area-lengths .ensures) (c .before .result .given .1) in
     record { inside = record { rising = rising; result = lengths .0; patterns = lengths .1; coefficients = lengths .2 } }
 

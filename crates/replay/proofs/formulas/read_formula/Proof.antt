@@ -1,5 +1,6 @@
 -- `read_formula` meets its contract: what is told of the table stands within it.
-use Rattle.replay.proofs.Shown.{shows-as, text-shows}
+use Rattle.replay.proofs.Shows.{shows-as}
+use Rattle.replay.proofs.Shown.{text-shows}
 use borrow.Author.Needs.{needs}
 use Rattle.replay.proofs.formulas.read_formula.Statement.{statement}
 use Rattle.replay.proofs.formulas.read_formula.Tie as tie

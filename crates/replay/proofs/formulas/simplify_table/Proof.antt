@@ -1,5 +1,6 @@
 -- `simplify_table` meets its contract: what is told of the result stands within it.
-use Rattle.replay.proofs.Shown.{shows-as, simplify-shows}
+use Rattle.replay.proofs.Shows.{shows-as}
+use Rattle.replay.proofs.Shown.{simplify-shows}
 use borrow.Author.Needs.{needs}
 use Rattle.replay.proofs.formulas.simplify_table.Statement.{statement}
 use Rattle.replay.proofs.formulas.simplify_table.Tie as tie

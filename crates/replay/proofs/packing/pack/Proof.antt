@@ -1,17 +1,35 @@
 -- `pack` meets its contract.
-use Prim.Native.Nat.{ℕ}
-use lib.IntN.{pos}
-use Rattle.replay.specs.Limits.{mostBytes, mostWords}
+use mathlib.Core.Path.{_≡_}
+use Prim.Native.Nat.{_≤_}
+use lib.ListN.{length}
+use Rattle.replay.specs.Limits.{mostBytes}
 use Rattle.replay.specs.Fields.{lengthsWithin}
 use Rattle.replay.specs.declared.fields.Lengths.the-variants.{Are}
-use Rattle.replay.proofs.Reading.{got-within, lengths-within, prefix-count, made-count, made-most}
+use Rattle.replay.proofs.Reading.{got-within, lengths-within, prefix-count, made-inside, made-count, made-most}
 use borrow.Author.Needs.{needs}
 use Rattle.replay.proofs.packing.pack.Statement.{statement}
 use Rattle.replay.proofs.packing.pack.Tie as tie
 
+-- as many patterns as were read stand in their area
+patterns-read : (d : tie.After-p) → d .p .given .0 .0 ≤ length (d .before .before .before .words2 .last .1 .1 .0)
+patterns-read d = got-within (d .before .before .before .words2 .ensures) (d .p .given .1) .1
+
+-- the area for the result was made before anything was read
+made : (d : tie.After-p) → mostBytes ≡ length (d .before .before .before .before .before .before .before .before .before .bytes .result)
+made d = d .before .before .before .before .before .before .before .before .before .bytes .ensures
+
 -- how long the areas are fits them
 lengths : (d : tie.After-r) → lengthsWithin (Are (d .r .given .0 .0) (d .r .given .0 .1 .0) (d .r .given .0 .1 .1 .0))
 lengths d = lengths-within (d .before .before .area-lengths .ensures) (d .r .given .1)
+
+words-requires : tie.Need-words-requires
+words-requires c κs = search needs
+
+signed-words-requires : tie.Need-signed-words-requires
+signed-words-requires c κs = search needs
+
+bytes-requires : tie.Need-bytes-requires
+bytes-requires c κs = search needs
 
 number-requires : tie.Need-number-requires
 number-requires c κs = search needs
@@ -34,8 +52,8 @@ returns c = search needs
 slice-aggregate-words : tie.Need-slice-aggregate-words
 slice-aggregate-words c = search needs
 
-words-requires : tie.Need-words-requires
-words-requires c κs = search needs
+words-requires-2 : tie.Need-words-requires-2
+words-requires-2 c κs = search needs
 
 enum-known-p : tie.Need-enum-known-p
 enum-known-p c = search needs
@@ -55,8 +73,8 @@ returns-2 c = search needs
 slice-aggregate-signed-words : tie.Need-slice-aggregate-signed-words
 slice-aggregate-signed-words c = search needs
 
-signed-words-requires : tie.Need-signed-words-requires
-signed-words-requires c κs = search needs
+signed-words-requires-2 : tie.Need-signed-words-requires-2
+signed-words-requires-2 c κs = search needs
 
 enum-known-c : tie.Need-enum-known-c
 enum-known-c c = search needs
@@ -92,25 +110,28 @@ returns-4 : tie.Need-returns-4
 returns-4 c = search needs
 
 array-share-prefix-patterns : tie.Need-array-share-prefix-patterns
-array-share-prefix-patterns c = got-within (c .before .before .before .before .before .before .before .before .before .before .before .before .before .before .words .ensures) (c .before .before .before .before .before .before .before .before .before .before .before .p .given .1) .1
+array-share-prefix-patterns c = let p = c .before .before .before .before .before .before .before .before .before .before .before in patterns-read p
 
 slice-aggregate-pack-terms : tie.Need-slice-aggregate-pack-terms
-slice-aggregate-pack-terms c = prefix-count _ _ (got-within (c .before .before .before .before .before .before .before .before .before .before .before .before .before .before .before .words .ensures) (c .before .before .before .before .before .before .before .before .before .before .before .before .p .given .1) .1)
+slice-aggregate-pack-terms c = let p = c .before .before .before .before .before .before .before .before .before .before .before .before in prefix-count _ _ (patterns-read p)
 
 array-share-prefix-coefficients : tie.Need-array-share-prefix-coefficients
-array-share-prefix-coefficients c = got-within (c .before .before .before .before .before .before .before .before .before .signed-words .ensures) (c .before .before .before .before .before .before .c .given .1) .1
+array-share-prefix-coefficients c = got-within (c .before .before .before .before .before .before .before .before .before .signed-words2 .ensures) (c .before .before .before .before .before .before .c .given .1) .1
 
 slice-aggregate-pack-terms-2 : tie.Need-slice-aggregate-pack-terms-2
-slice-aggregate-pack-terms-2 c = prefix-count _ _ (got-within (c .before .before .before .before .before .before .before .before .before .before .signed-words .ensures) (c .before .before .before .before .before .before .before .c .given .1) .1)
+slice-aggregate-pack-terms-2 c = prefix-count _ _ (got-within (c .before .before .before .before .before .before .before .before .before .before .signed-words2 .ensures) (c .before .before .before .before .before .before .before .c .given .1) .1)
 
 array-borrow-prefix-result : tie.Need-array-borrow-prefix-result
-array-borrow-prefix-result c = lengths ((c .before .before .before)) .0
+array-borrow-prefix-result c = let p = c .before .before .before .before .before .before .before .before .before .before .before .before .before in made-inside (made p) (lengths ((c .before .before .before)) .0)
 
 slice-aggregate-pack-terms-3 : tie.Need-slice-aggregate-pack-terms-3
-slice-aggregate-pack-terms-3 c = made-count {A = ℕ} _ mostBytes 0 (lengths ((c .before .before .before .before)) .0)
+slice-aggregate-pack-terms-3 c = let p = c .before .before .before .before .before .before .before .before .before .before .before .before .before .before in made-count _ (made p) (lengths ((c .before .before .before .before)) .0)
 
 pack-terms-requires : tie.Need-pack-terms-requires
-pack-terms-requires c κs = (made-most {A = ℕ} _ mostBytes 0 (lengths ((c .before .before .before .before .before)) .0), c .before .before .before .before .before .before .before .before .before .before .before .before .before .before .before .before .before .before .before .before .before .before .before .before .before .before .pre)
+pack-terms-requires c κs =
+    let p = c .before .before .before .before .before .before .before .before .before .before .before .before .before .before .before in
+    let start = p .before .before .before .before .before .before .before .before .before .before .before .before .before .before in
+    (made-most _ (made p) (lengths ((c .before .before .before .before .before)) .0), start .pre)
 
 same-length-5 : tie.Need-same-length-5
 same-length-5 c = search needs
@@ -119,41 +140,4 @@ returns-5 : tie.Need-returns-5
 returns-5 c = search needs
 
 pub pack-spec : {M : Type 1} → statement M
-pack-spec =
-    tie.close
-    (tie.spec
-    number-requires
-    enum-known-count
-    enum-told
-    unknown-requires
-    same-length
-    returns
-    slice-aggregate-words
-    words-requires
-    enum-known-p
-    enum-told-2
-    unknown-requires-2
-    same-length-2
-    returns-2
-    slice-aggregate-signed-words
-    signed-words-requires
-    enum-known-c
-    enum-told-3
-    unknown-requires-3
-    same-length-3
-    returns-3
-    area-lengths-requires
-    enum-known-r
-    enum-told-4
-    unknown-requires-4
-    same-length-4
-    returns-4
-    array-share-prefix-patterns
-    slice-aggregate-pack-terms
-    array-share-prefix-coefficients
-    slice-aggregate-pack-terms-2
-    array-borrow-prefix-result
-    slice-aggregate-pack-terms-3
-    pack-terms-requires
-    same-length-5
-    returns-5)
+pack-spec = tie.close (tie.spec words-requires signed-words-requires bytes-requires number-requires enum-known-count enum-told unknown-requires same-length returns slice-aggregate-words words-requires-2 enum-known-p enum-told-2 unknown-requires-2 same-length-2 returns-2 slice-aggregate-signed-words signed-words-requires-2 enum-known-c enum-told-3 unknown-requires-3 same-length-3 returns-3 area-lengths-requires enum-known-r enum-told-4 unknown-requires-4 same-length-4 returns-4 array-share-prefix-patterns slice-aggregate-pack-terms array-share-prefix-coefficients slice-aggregate-pack-terms-2 array-borrow-prefix-result slice-aggregate-pack-terms-3 pack-terms-requires same-length-5 returns-5)

@@ -1,5 +1,6 @@
 -- `pack_terms` meets its contract: what is told of the result stands within it.
-use Rattle.replay.proofs.Shown.{shows-as, pack-shows}
+use Rattle.replay.proofs.Shows.{shows-as}
+use Rattle.replay.proofs.Shown.{pack-shows}
 use borrow.Author.Needs.{needs}
 use Rattle.replay.proofs.packing.pack_terms.Statement.{statement}
 use Rattle.replay.proofs.packing.pack_terms.Tie as tie

@@ -1,5 +1,6 @@
 -- `unpack_bytes` meets its contract: what is told of both areas stands within them.
-use Rattle.replay.proofs.Shown.{shows-as, unpack-shows}
+use Rattle.replay.proofs.Shows.{shows-as}
+use Rattle.replay.proofs.Shown.{unpack-shows}
 use borrow.Author.Needs.{needs}
 use Rattle.replay.proofs.packing.unpack_bytes.Statement.{statement}
 use Rattle.replay.proofs.packing.unpack_bytes.Tie as tie

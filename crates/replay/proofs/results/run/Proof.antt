@@ -1,5 +1,6 @@
 -- `run` meets its contract: what is told of the result stands within it.
-use Rattle.replay.proofs.Shown.{shows-as, slope-shows, estimate-shows}
+use Rattle.replay.proofs.Shows.{shows-as}
+use Rattle.replay.proofs.Shown.{slope-shows, estimate-shows}
 use borrow.Author.Needs.{needs}
 use Rattle.replay.proofs.results.run.Statement.{statement}
 use Rattle.replay.proofs.results.run.Tie as tie

@@ -4,7 +4,7 @@ use native.Mathlib.Omega.{arith}
 use lib.ListN.{length, take}
 use Rattle.replay.specs.Limits.{mostWords}
 use Rattle.replay.proofs.Reading.{prefix-count, prefix-most}
-use Rattle.replay.proofs.Shown.{shows-done}
+use Rattle.replay.proofs.Shows.{shows-done}
 use borrow.Author.Needs.{needs}
 use Rattle.replay.proofs.telling.tell_terms.Statement.{statement}
 use Rattle.replay.proofs.telling.tell_terms.Tie as tie
