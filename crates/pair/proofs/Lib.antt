@@ -3,8 +3,6 @@ pub mod Measuring
 pub mod TakingPart
 pub mod ByPower
 pub mod Copying
-pub mod One
-pub mod AddingPairs
 pub mod AddingRows
 pub mod Bounds
 pub mod Replacing

@@ -37,11 +37,11 @@ use Rattle.sums.proofs.Fronts.{Placed, placed-few, placed-is, placed-held, Fron
 use Rattle.sums.proofs.Gathering.{gathered, placed-finished}
 use Rattle.sums.proofs.Multiplying.{Factors, product-holdable, gather-rest, spread-rest}
 use Rattle.sums.proofs.Raising.{heavier, spread-rises}
+use Rattle.sums.proofs.One.{unit-holdable, pairs-unit}
 use Rattle.pair.specs.Asked.{CanPut, Allowed}
 use Rattle.pair.specs.Formed.{pairOf}
 use Rattle.pair.specs.Rows.{partAt, rowsAt, CanAddRows}
 use Rattle.pair.proofs.Bounds.{power-low, power-light, rows-within, step-judged, step-narrow}
-use Rattle.pair.proofs.One.{unit-holdable, pairs-unit}
 use Rattle.pair.proofs.TakingPart.{part-holdable}
 use Rattle.pair.proofs.ByPower.{rows-long, rowsTo, all-collected, all-spread, to-spread, to-weight, to-every}
 
@@ -126,12 +126,11 @@ pub record Putting (v largest : ℕ) (sp : List ℕ) (sc : List ℤ) (fp : List 
   pub words-room : mostTerms + mostTerms ≡ length gp
   pub coefficients-room : mostTerms + mostTerms ≡ length gc
 
--- the arrays that are lent to work in, and that of the running sum's ranks, keep their lengths
-pub record Lent (gr pr : List ℕ) (pc : List ℤ) (wr : List ℕ) : Type 0 where
+-- the arrays that are lent to work in, and the first of the running sum's, keep their lengths
+pub record Lent (gr pp : List ℕ) (pc : List ℤ) : Type 0 where
   pub running : mostTerms + mostTerms ≡ length gr
-  pub part-ranks : mostTerms ≡ length pr
+  pub part-words : mostTerms ≡ length pp
   pub part-coefficients : mostTerms ≡ length pc
-  pub power-ranks : mostTerms ≡ length wr
 
 -- And where the power k stands, and its rows are to be added to those before.
 pub record Joining (v largest : ℕ) (sp : List ℕ) (sc : List ℤ) (fp : List ℕ) (fc : List ℤ) (gp : List ℕ) (gc : List ℤ) (wp : List ℕ) (wc : List ℤ)

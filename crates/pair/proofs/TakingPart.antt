@@ -21,7 +21,7 @@ use Rattle.algebra.proofs.Sums.Ordered.{before-is, is-before, ahead-trans, orde
 use Rattle.sums.specs.Held.{Held}
 use Rattle.sums.specs.Rows.{Stands}
 use Rattle.sums.proofs.Holding.{Holdable, holdable, each-valid, terms-many, terms-next}
-use Rattle.sums.proofs.Fronts.{placed-written}
+use Rattle.sums.proofs.Fronts.{Placed, placed-written}
 use Rattle.sums.proofs.Storing.{Stored, stored-none, stored-next}
 use Rattle.pair.specs.Rows.{partAt}
 
@@ -113,6 +113,11 @@ part-holdable v k known {s} h = record {
       (part-every v k (UpTo largestDegree) (UpTo largestDegree) (λ p low is. omega (arith, without-degree v p)) s (degree-every largestDegree s (h .low)));
   few = omega (arith, part-few v k s, h .few);
 }
+
+-- where they stand they can be held
+pub part-placed : (v k : ℕ) → v < variables → {fp : List ℕ} {fc : List ℤ} → Held fp fc → {m : ℕ} {ws : List ℕ} {cs : List ℤ} → Stands (partAt v k (terms fp fc)) m ws cs
+    → Placed (partAt v k (terms fp fc)) m ws cs
+part-placed v k known into stands = record { stands = stands; holdable = part-holdable v k known (holdable into) }
 
 -- ---- The loop: of the terms so far, those with the power k are stored.
 

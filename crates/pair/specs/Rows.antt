@@ -11,10 +11,8 @@ use Rattle.algebra.specs.Pattern.{exponent, without}
 use Rattle.algebra.specs.Sum.{Term, term, Sum, degreeOf, weight}
 use Rattle.algebra.specs.Arithmetic.{pairs}
 use Rattle.algebra.specs.Word.{terms}
-use Rattle.algebra.specs.Inside.Rank.{wordsAt}
 use Rattle.algebra.specs.Held.{firstTerms}
 use Rattle.sums.specs.Held.{Held}
-use Rattle.sums.specs.Rows.{CanAdd}
 
 -- the terms with the power k of v, without it
 unfoldable pub partAt : ℕ → ℕ → Sum → Sum
@@ -25,7 +23,8 @@ partAt v k (t ∷ s) = cond (eqb (exponent v (t .pattern)) k) (term (t .coeffici
 abbrev pub rowsAt : ℕ → ℕ → Sum → Sum → List Term
 rowsAt v k F s = pairs (partAt v k s) F
 
--- what adding them to a running sum asks; it has n terms, and stands in two areas that have room for 128 terms and a row of 128 more
+-- what adding them to a running sum asks; it has n terms, whose words are the first of ws, and stands in two areas that have room for 128 terms and a row of
+-- 128 more
 pub record CanAddRows (v k : ℕ) (fp : List ℕ) (fc : List ℤ) (wp : List ℕ) (wc : List ℤ) (ws : List ℕ) (cs : List ℤ) (n : ℕ) : Type 0 where
   pub known : v < variables
   pub into : Held fp fc
@@ -36,15 +35,3 @@ pub record CanAddRows (v k : ℕ) (fp : List ℕ) (fc : List ℤ) (wp : List ℕ
   pub light : weight (rowsAt v k (terms wp wc) (terms fp fc)) + weight (firstTerms n ws cs) ≤ largestWeight
   pub words-room : mostTerms + mostTerms ≤ length ws
   pub coefficients-room : mostTerms + mostTerms ≤ length cs
-
--- ---- All pairs of any two sums, by ranks.
-
--- two areas have room for a running sum of 128 terms and a row of 128 more
-pub record RunningRoom (gr : List ℕ) (gc : List ℤ) : Type 0 where
-  pub ranks : mostTerms + mostTerms ≤ length gr
-  pub coefficients : mostTerms + mostTerms ≤ length gc
-
--- what adding the pairs to a running sum of n terms asks
-pub record CanAddPairs (gr : List ℕ) (gc : List ℤ) (n : ℕ) (sr : List ℕ) (sc : List ℤ) (tr : List ℕ) (tc : List ℤ) : Type 0 where
-  pub can : CanAdd (wordsAt gr) gc n (wordsAt sr) sc (wordsAt tr) tc
-  pub room : RunningRoom gr gc

@@ -1,5 +1,5 @@
 // A sum is put for a variable, power by power: the terms without the variable come first, then those with its first power, and so on. Each power is
-// formed once, of the one before. `wp` and `wc` hold the power of the sum that is put, `gr` and `gc` the running sum, by ranks.
+// formed once, of the one before. `wp` and `wc` hold the power of the sum that is put, `gr` and `gc` the running sum, which only `sums::rows` opens.
 use algebra::MOST_TERMS;
 use algebra::Pattern;
 use answers::areas;
@@ -7,28 +7,26 @@ use sums::Formed;
 use sums::MOST_PLACES;
 use sums::rows;
 ghost use mathlib.Core.Path.{_≡_};
-ghost use Prim.Native.Nat.{_+_, _*_, _≤_, _<_, min};
-ghost use lib.ListN.{length, take};
+ghost use Prim.Native.Nat.{_≤_, _<_};
+ghost use lib.ListN.{take};
 ghost use Rattle.algebra.specs.Limits.{variables, mostTerms};
-ghost use Rattle.algebra.specs.Arithmetic.{pairs};
 ghost use Rattle.algebra.specs.Substitute.{largestPower};
 ghost use Rattle.algebra.specs.Word.{terms};
-ghost use Rattle.algebra.specs.Inside.Rank.{wordsAt};
 ghost use Rattle.algebra.specs.Held.{firstTerms};
 ghost use Rattle.sums.specs.Held.{Held};
 ghost use Rattle.sums.specs.Asked.{Room, Factors};
 ghost use Rattle.sums.specs.Formed.{formedOf, productOf, withRow, formedInto};
-ghost use Rattle.sums.specs.Rows.{Stands, Added};
+ghost use Rattle.sums.specs.Rows.{Stands, Added, runningWords};
 ghost use Rattle.pair.specs.Asked.{CanPut, Allowed};
 ghost use Rattle.pair.specs.Formed.{pairOf};
-ghost use Rattle.pair.specs.Rows.{partAt, rowsAt, CanAddRows, CanAddPairs};
+ghost use Rattle.pair.specs.Rows.{partAt, rowsAt, CanAddRows};
 
-// The terms with the power k of v, without it, by ranks: they keep their order. It answers how many they are.
-fn take_part(v: u64, k: u64, fp: &[u64], fc: &[i64], pr: &mut [u64], pc: &mut [i64]) -> usize
+// The terms with the power k of v, without it: they keep their order. It answers how many they are.
+fn take_part(v: u64, k: u64, fp: &[u64], fc: &[i64], pp: &mut [u64], pc: &mut [i64]) -> usize
     requires { ⌜ v < variables ⌝ }
     requires { ⌜ Held (now fp) (now fc) ⌝ }
-    requires { ⌜ Room (now pr) (now pc) ⌝ }
-    ensures { λ r. ⌜ Stands (partAt v k (terms (now (fp .entry)) (now (fc .entry)))) r (wordsAt (now (pr .exit))) (now (pc .exit)) ⌝ }
+    requires { ⌜ Room (now pp) (now pc) ⌝ }
+    ensures { λ r. ⌜ Stands (partAt v k (terms (now (fp .entry)) (now (fc .entry)))) r (now (pp .exit)) (now (pc .exit)) ⌝ }
 {
     let mut count = 0;
     let mut i = 0;
@@ -37,7 +35,7 @@ fn take_part(v: u64, k: u64, fp: &[u64], fc: &[i64], pr: &mut [u64], pc: &mut [i
         if pattern.exponent(v) == k {
             let c = fc[i];
             let rest = pattern.without(v);
-            pr[count] = rest.rank();
+            pp[count] = rest.0;
             pc[count] = c;
             count += 1;
             i += 1;
@@ -48,74 +46,8 @@ fn take_part(v: u64, k: u64, fp: &[u64], fc: &[i64], pr: &mut [u64], pc: &mut [i
     count
 }
 
-// The places that a running sum of n terms takes up while it is formed with so many pairs: no more than it and all pairs do, and no more than any running sum.
-fn places(n: usize, pairs: usize) -> usize
-    requires { ⌜ n ≤ mostTerms ⌝ }
-    requires { ⌜ pairs ≤ mostTerms * mostTerms ⌝ }
-    ensures { λ r. ⌜ r ≡ min (n + pairs) (mostTerms + mostTerms) ⌝ }
-{
-    let all = n + pairs;
-    if all < MOST_PLACES {
-        return all;
-    }
-    MOST_PLACES
-}
-
-// All pairs of two sums go into a running sum of n terms, with a row for each term of the shorter of the two. No more places of the running sum are lent than are
-// needed: they are cleared.
-fn add_straight(
-    gr: &mut [u64],
-    gc: &mut [i64],
-    n: usize,
-    sr: &[u64],
-    sc: &[i64],
-    tr: &[u64],
-    tc: &[i64],
-) -> Formed
-    requires { ⌜ CanAddPairs (now gr) (now gc) n (now sr) (now sc) (now tr) (now tc) ⌝ }
-    ensures { λ r. ⌜ Added
-        (withRow (pairs (terms (wordsAt (now (sr .entry))) (now (sc .entry))) (terms (wordsAt (now (tr .entry))) (now (tc .entry))))
-        (firstTerms n (wordsAt (now (gr .entry))) (now (gc .entry)))) (formedOf r) (wordsAt (now (gr .exit))) (now (gc .exit)) ⌝ }
-{
-    let m = sr.len();
-    let w = tr.len();
-    let end = places(n, m * w);
-    if m < w {
-        return rows::add_product(&mut gr[0..end], &mut gc[0..end], n, sr, sc, tr, tc);
-    }
-    rows::add_product(&mut gr[0..end], &mut gc[0..end], n, tr, tc, sr, sc)
-}
-
-// The same, but more rows than one are formed apart, in two other arrays, and go into the running sum as one row: it is long, and every row would move its terms.
-fn add_apart(
-    gr: &mut [u64],
-    gc: &mut [i64],
-    n: usize,
-    sr: &[u64],
-    sc: &[i64],
-    tr: &[u64],
-    tc: &[i64],
-) -> Formed
-    requires { ⌜ CanAddPairs (now gr) (now gc) n (now sr) (now sc) (now tr) (now tc) ⌝ }
-    ensures { λ r. ⌜ Added
-        (withRow (pairs (terms (wordsAt (now (sr .entry))) (now (sc .entry))) (terms (wordsAt (now (tr .entry))) (now (tc .entry))))
-        (firstTerms n (wordsAt (now (gr .entry))) (now (gc .entry)))) (formedOf r) (wordsAt (now (gr .exit))) (now (gc .exit)) ⌝ }
-{
-    if sr.len() < 2 || tr.len() < 2 {
-        return add_straight(gr, gc, n, sr, sc, tr, tc);
-    }
-    let mut hr = [0u64; MOST_PLACES];
-    let mut hc = [0i64; MOST_PLACES];
-    let product = add_straight(&mut hr, &mut hc, 0, sr, sc, tr, tc);
-    let Formed::Terms(together) = product else {
-        return product;
-    };
-    // The other factor is 1: the rank 0 is that of the empty pattern.
-    add_straight(gr, gc, n, &hr[0..together], &hc[0..together], &[0], &[1])
-}
-
 // The rows of the terms with the power k of v go into the running sum, which has n terms: all pairs of these terms and of the power that is put for v.
-// `pr`, `pc` and `wr` are lent to work in.
+// `pp` and `pc` are lent to work in.
 fn add_rows(
     v: u64,
     k: u64,
@@ -126,24 +58,22 @@ fn add_rows(
     gr: &mut [u64],
     gc: &mut [i64],
     n: usize,
-    pr: &mut [u64],
+    pp: &mut [u64],
     pc: &mut [i64],
-    wr: &mut [u64],
 ) -> Formed
-    requires { ⌜ CanAddRows v k (now fp) (now fc) (now wp) (now wc) (wordsAt (now gr)) (now gc) n ⌝ }
-    requires { ⌜ Room (now pr) (now pc) ⌝ }
-    requires { ⌜ mostTerms ≤ length (now wr) ⌝ }
+    requires { ⌜ CanAddRows v k (now fp) (now fc) (now wp) (now wc) (runningWords (now gr)) (now gc) n ⌝ }
+    requires { ⌜ Room (now pp) (now pc) ⌝ }
     ensures { λ r. ⌜ Added
-        (withRow (rowsAt v k (terms (now (wp .entry)) (now (wc .entry))) (terms (now (fp .entry)) (now (fc .entry))))
-        (firstTerms n (wordsAt (now (gr .entry))) (now (gc .entry)))) (formedOf r) (wordsAt (now (gr .exit))) (now (gc .exit)) ⌝ }
+        (withRow
+        (rowsAt v k (terms (now (wp .entry)) (now (wc .entry))) (terms (now (fp .entry)) (now (fc .entry))))
+        (firstTerms n (runningWords (now (gr .entry))) (now (gc .entry))))
+        (formedOf r) (runningWords (now (gr .exit))) (now (gc .exit)) ⌝ }
 {
-    let m = take_part(v, k, fp, fc, pr, pc);
+    let m = take_part(v, k, fp, fc, pp, pc);
     if m == 0 {
         return Formed::Terms(n);
     }
-    let w = wp.len();
-    rows::rank_words(wp, wr);
-    add_apart(gr, gc, n, &pr[0..m], &pc[0..m], &wr[0..w], wc)
+    rows::add_product(gr, gc, n, &pp[0..m], &pc[0..m], wp, wc)
 }
 
 // The power becomes the next one, which is formed in two areas that are lent to work in.
@@ -198,16 +128,16 @@ pub fn put(
     let mut gc = [0i64; MOST_PLACES];
     let mut wp = [0u64; MOST_TERMS];
     let mut wc = [0i64; MOST_TERMS];
-    let mut pr = [0u64; MOST_TERMS];
+    let mut pp = [0u64; MOST_TERMS];
     let mut pc = [0i64; MOST_TERMS];
-    let mut wr = [0u64; MOST_TERMS];
     // The power 0 is 1: the terms without the variable stand as they are.
-    let mut all = take_part(v, 0, fp, fc, &mut gr, &mut gc);
+    let mut all = take_part(v, 0, fp, fc, &mut pp, &mut pc);
+    rows::begin(&pp[0..all], &pc[0..all], &mut gr, &mut gc);
     sums::integer(1, &mut wp, &mut wc);
     let mut n = 1;
     let mut k = 0;
     while k < largest {
-        let raised = raise(&mut wp, &mut wc, n, sp, sc, &mut pr, &mut pc);
+        let raised = raise(&mut wp, &mut wc, n, sp, sc, &mut pp, &mut pc);
         let Formed::Terms(count) = raised else {
             return raised;
         };
@@ -223,9 +153,8 @@ pub fn put(
             &mut gr,
             &mut gc,
             all,
-            &mut pr,
+            &mut pp,
             &mut pc,
-            &mut wr,
         );
         let Formed::Terms(together) = added else {
             return added;

@@ -1,11 +1,11 @@
 -- Two areas whose first places hold a sum by ranks, or nothing, once their other places are cleared: as if the sum were written to areas of zeros.
 use mathlib.Core.Path.{_≡_, refl, sym, _∙_, ap, ap₂, subst}
-use mathlib.Core.List.{List, [], _++_, map, append-nil}
+use mathlib.Core.List.{List, [], _++_, map, append-nil, append-assoc}
 use Prim.Native.Nat.{ℕ, _+_, _-_, _^_, _≤_, _<_}
 use native.Mathlib.Omega.{arith}
 use lib.IntN.{ℤ, pos}
-use lib.ListN.{length, getD, take, drop, length-take, length-drop, length-map, drop-of-length-le, replicate, length-replicate, replicate-append-replicate}
-use lib.Seq.{drop-at}
+use lib.ListN.{length, getD, take, drop, length-append, length-take, length-drop, length-map, drop-of-length-le, replicate, length-replicate, replicate-append-replicate}
+use lib.Seq.{drop-at, drop-append-le, length-take-le}
 use borrow.Rule.Slice.PartMut.{midOf, putMid}
 use Rattle.algebra.specs.Sum.{Term, Sum}
 use Rattle.algebra.specs.Word.{word, EachValid}
@@ -15,7 +15,7 @@ use Rattle.algebra.proofs.Patterns.Rank.{words-again}
 use Rattle.answers.specs.Areas.{written, cleared}
 use Rattle.answers.proofs.Writes.{written-front}
 use Rattle.sums.specs.Formed.{Formed, Formed.formed, Formed.over}
-use Rattle.sums.specs.Rows.{Added, ranksOf, rankedInto}
+use Rattle.sums.specs.Rows.{Added, ranksOf, runningInto}
 use Rattle.sums.proofs.Holding.{map-take, Holdable, each-valid, holds}
 use Rattle.sums.proofs.Ranking.{front-ranks}
 
@@ -47,6 +47,21 @@ module _ {A : Type 0} (zero : A) where
       in
       ap₂ (λ (l m : List A). l ++ m) front (ap₂ (λ (l m : List A). l ++ m) cleared-rest none ∙ append-nil zeros) ∙ ap (λ (l : List A). values ++ l) (sym after)
 
+  -- values that were written to the first places of an area, cleared as a whole, of which the code lent them: the other places stay
+  part-cleared : (values area part : List A) (end : ℕ) → end ≤ length area → part ≡ written values (cleared zero (length (take end area)) (take end area)) → length part ≡ length (take end area)
+      → part ++ drop end area ≡ written values (cleared zero end area)
+  part-cleared values area part end inside is same =
+      let all : length (take end area) ≡ end = length-take-le end area inside in
+      let zeros : cleared zero (length (take end area)) (take end area) ≡ replicate end zero =
+      all-cleared (length (take end area)) (take end area) (omega arith) ∙ ap (λ (n : ℕ). replicate n zero) all
+      in
+      let few : length values ≤ end = omega (arith, same, all, ap length is, length-append values (drop (length values) (cleared zero (length (take end area)) (take end area)))) in
+      ap (λ (l : List A). l ++ drop end area) (is ∙ ap (λ (l : List A). values ++ drop (length values) l) zeros)
+      ∙ append-assoc values (drop (length values) (replicate end zero)) (drop end area)
+      ∙ ap (λ (l : List A). values ++ l)
+      (sym (drop-append-le (length values) (replicate end zero) (drop end area) (omega (arith, length-replicate end zero)))
+      ∙ ap (λ (n : ℕ). drop (length values) (replicate end zero ++ drop n area)) (sym (length-replicate end zero)))
+
 -- ---- Both.
 
 -- the number of terms that stand there
@@ -73,8 +88,8 @@ module _ {answer : Formed ℕ} (ks₀ : List ℕ) (cs₀ : List ℤ) (ks : List 
     {ps : List ℕ} {ds : List ℤ} (ranks : ps ≡ cleared 0 (length ks - all) (midOf all (length ks - all) ks))
     (coefficients : ds ≡ cleared (pos 0) (length cs - all) (midOf all (length cs - all) cs)) where
   pub cleared-into : (f : Formed Sum) → Added f answer (wordsAt ks) cs → ((s : Sum) → f ≡ formed s → take (length s) ks ≡ ranksOf s)
-      → (answer, putMid all (length ks - all) ks ps, putMid all (length cs - all) cs ds) ≡ rankedInto f (cleared 0 (length ks₀) ks₀) (cleared (pos 0) (length cs₀) cs₀)
-  unfolding rankedInto
+      → (answer, putMid all (length ks - all) ks ps, putMid all (length cs - all) cs ds) ≡ runningInto f (cleared 0 (length ks₀) ks₀) (cleared (pos 0) (length cs₀) cs₀)
+  unfolding runningInto
   cleared-into (formed s) a stand =
       let many : all ≡ length s = is ∙ ap numberOf (a .number-is) in
       let inside = number-inside (formed s) ks a is in
@@ -92,11 +107,30 @@ module _ {answer : Formed ℕ} (ks₀ : List ℕ) (cs₀ : List ℤ) (ks : List 
         rest-cleared (pos 0) [] cs₀ cs ds all (ap (λ (n : ℕ). take n cs) none) (sym none) (inside .1) same-coefficients coefficients,
       )
 
+-- the same where the code lent the first places of two areas
+pub lent-into : (f : Formed Sum) {answer : Formed ℕ} (ks₀ : List ℕ) (cs₀ : List ℤ) {end : ℕ} {ks : List ℕ} {cs : List ℤ} → end ≤ length ks₀ → end ≤ length cs₀
+    → (answer, ks, cs) ≡ runningInto f (cleared 0 (length (take end ks₀)) (take end ks₀)) (cleared (pos 0) (length (take end cs₀)) (take end cs₀))
+    → length ks ≡ length (take end ks₀) → length cs ≡ length (take end cs₀)
+    → (answer, ks ++ drop end ks₀, cs ++ drop end cs₀) ≡ runningInto f (cleared 0 end ks₀) (cleared (pos 0) end cs₀)
+unfolding runningInto
+lent-into (formed s) ks₀ cs₀ {end} {ks} {cs} ranks-room coefficients-room told same-ranks same-coefficients =
+    rw (
+      ap (λ x. x .0) told,
+      part-cleared 0 (ranksOf s) ks₀ ks end ranks-room (ap (λ x. x .1) told) same-ranks,
+      part-cleared (pos 0) (coefficientsOf s) cs₀ cs end coefficients-room (ap (λ x. x .2) told) same-coefficients,
+    )
+lent-into over ks₀ cs₀ {end} {ks} {cs} ranks-room coefficients-room told same-ranks same-coefficients =
+    rw (
+      ap (λ x. x .0) told,
+      part-cleared 0 [] ks₀ ks end ranks-room (ap (λ x. x .1) told) same-ranks,
+      part-cleared (pos 0) [] cs₀ cs end coefficients-room (ap (λ x. x .2) told) same-coefficients,
+    )
+
 -- ---- And back: a sum that was written by ranks stands there by words.
 
-pub ranked-added : (f : Formed Sum) → ((s : Sum) → f ≡ formed s → Holdable s) → (ks₀ : List ℕ) (cs₀ : List ℤ) {answer : Formed ℕ} (ks : List ℕ) {cs : List ℤ} → (answer, ks, cs) ≡ rankedInto f ks₀ cs₀
+pub ranked-added : (f : Formed Sum) → ((s : Sum) → f ≡ formed s → Holdable s) → (ks₀ : List ℕ) (cs₀ : List ℤ) {answer : Formed ℕ} (ks : List ℕ) {cs : List ℤ} → (answer, ks, cs) ≡ runningInto f ks₀ cs₀
     → Added f answer (wordsAt ks) cs
-unfolding rankedInto
+unfolding runningInto
 ranked-added (formed s) holdable ks₀ cs₀ ks {cs} told =
     let front = written-front (ranksOf s) ks₀ (ap (λ x. x .1) told) (length-map (wordsOf s) rankOf ∙ length-map s _) .0 in
     let words : take (length s) (wordsAt ks) ≡ wordsOf s = sym (map-take wordAt (length s) ks) ∙ ap wordsAt front ∙ words-again (wordsOf s) (each-valid (holds (holdable s refl))) in

@@ -27,6 +27,10 @@ pub mod Ends
 pub mod AddRow
 pub mod Pairing
 pub mod Clearing
+pub mod One
+pub mod AddingPairs
+pub mod AddProduct
+pub mod RunningWords
 pub mod Raising
 pub mod OneTerm
 pub mod TwoTerms

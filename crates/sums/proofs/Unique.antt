@@ -1,5 +1,5 @@
 -- Each public function's contract leaves one outcome, as its caller sees it: the answer, and every place of both areas that it lent.
-use mathlib.Core.Path.{_≡_, refl, sym, _∙_, ap}
+use mathlib.Core.Path.{_≡_, refl, sym, _∙_, ap, ap₂}
 use mathlib.Core.List.{List}
 use Prim.Native.Nat.{ℕ}
 use lib.IntN.{ℤ}
@@ -17,8 +17,8 @@ use Rattle.sums.proofs.sum.Reads as sum
 use Rattle.sums.proofs.multiply_by_term.Reads as multiply-by-term
 use Rattle.sums.proofs.product.Reads as product
 use Rattle.sums.proofs.power.Reads as power
-use Rattle.sums.proofs.rows.rank_words.Reads as rank-words
 use Rattle.sums.proofs.rows.add_row.Reads as add-row
+use Rattle.sums.proofs.rows.begin.Reads as begin
 use Rattle.sums.proofs.rows.add_product.Reads as add-product
 use Rattle.sums.proofs.rows.finish.Reads as finish
 
@@ -77,12 +77,12 @@ product-one k a r r' e e' h h' = told-one r r' (same h h')
 pub power-one : OneLent power.Learnt {L = TwoAreas} (λ k e. (now (e .1 .1 .1 .0), now (e .1 .1 .1 .1 .0)))
 power-one k a r r' e e' h h' = told-one r r' (same h h')
 
--- Refused when tried: always the rank of the first word; every rank at place 0.
-pub rank-words-one : OneLent rank-words.Learnt {L = List ℕ} (λ k e. now (e .1 .0))
-rank-words-one k a r r' e e' h h' = (refl, same h h')
-
 pub add-row-one : OneLent add-row.Learnt {L = TwoAreas} (λ k e. (now (e .0), now (e .1 .0)))
 add-row-one k a r r' e e' h h' = let all = same h h' in (ap (λ x. x .0) all, ap (λ x. (x .1, x .2)) all)
+
+-- Refused when tried: no coefficient is copied.
+pub begin-one : OneLent begin.Learnt {L = TwoAreas} (λ k e. (now (e .1 .1 .0), now (e .1 .1 .1 .0)))
+begin-one k a r r' e e' h h' = (refl, ap₂ (λ ws cs. (ws, cs)) (same (h .0) (h' .0)) (same (h .1) (h' .1)))
 
 -- Refused when tried: answers the old number of terms; the words after the sum are not cleared.
 pub add-product-one : OneLent add-product.Learnt {L = TwoAreas} (λ k e. (now (e .0), now (e .1 .0)))

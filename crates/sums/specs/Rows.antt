@@ -2,7 +2,7 @@
 use mathlib.Core.Path.{_≡_}
 use mathlib.Core.Bool.{_||_}
 use mathlib.Core.List.{List, _++_, map}
-use Prim.Native.Nat.{ℕ, _+_, _*_, _-_, _^_, _≤_, _<_}
+use Prim.Native.Nat.{ℕ, _+_, _*_, _-_, _^_, _≤_, _<_, min}
 use lib.Dec.{T, leb}
 use lib.IntN.{ℤ, pos, natAbs}
 use lib.ListN.{length, take, drop}
@@ -12,7 +12,7 @@ use Rattle.algebra.specs.Sum.{term, Sum, degreeOf, weight}
 use Rattle.algebra.specs.Collect.{gather}
 use Rattle.algebra.specs.Arithmetic.{row}
 use Rattle.algebra.specs.Word.{exponents, terms, Valid}
-use Rattle.algebra.specs.Inside.Rank.{rankOf}
+use Rattle.algebra.specs.Inside.Rank.{rankOf, wordsAt}
 use Rattle.algebra.specs.Held.{wordsOf, coefficientsOf, firstTerms}
 use Rattle.answers.specs.Areas.{written, cleared}
 use Rattle.sums.specs.Held.{Held}
@@ -88,16 +88,39 @@ abbrev pub counted : Formed Sum → Formed ℕ
 counted (formed s) = formed (length s)
 counted over = over
 
--- the number of terms, and two areas with the terms in their first places, by ranks; without a sum the areas stay
+-- the ranks of its patterns
 abbrev pub ranksOf : Sum → List ℕ
 ranksOf s = map rankOf (wordsOf s)
 
-unfoldable pub rankedInto : Formed Sum → List ℕ → List ℤ → Formed ℕ × List ℕ × List ℤ
-rankedInto (formed s) ks cs = (formed (length s), written (ranksOf s) ks, written (coefficientsOf s) cs)
-rankedInto over ks cs = (over, ks, cs)
+-- the number of terms, and two areas with the running sum in their first places, by ranks; without a sum the areas stay
+unfoldable pub runningInto : Formed Sum → List ℕ → List ℤ → Formed ℕ × List ℕ × List ℤ
+runningInto (formed s) ks cs = (formed (length s), written (ranksOf s) ks, written (coefficientsOf s) cs)
+runningInto over ks cs = (over, ks, cs)
 
 -- the code's answer, and the two areas: a sum stands in their first places; without a sum nothing is said of them
 pub record Added (f : Formed Sum) (answer : Formed ℕ) (ws : List ℕ) (cs : List ℤ) : Type 0 where
   pub number-is : answer ≡ counted f
   pub words-are : (s : Sum) → f ≡ formed s → take (length s) ws ≡ wordsOf s
   pub coefficients-are : (s : Sum) → f ≡ formed s → take (length s) cs ≡ coefficientsOf s
+
+-- ---- A running sum for other crates.
+
+-- the words of a running sum's patterns, in an area that its caller does not open
+abbrev pub runningWords : List ℕ → List ℕ
+runningWords ranks = wordsAt ranks
+
+-- the places that a running sum of n terms takes up while so many pairs are added to it: no more than it and all pairs do, and no more than any running sum
+-- and a row do
+abbrev pub placesFor : ℕ → ℕ → ℕ
+placesFor n pairs = min (n + pairs) (mostTerms + mostTerms)
+
+-- all pairs of two sums can be added to a running sum of n terms
+pub record CanAddProduct (ranks : List ℕ) (cs : List ℤ) (n : ℕ) (sp : List ℕ) (sc : List ℤ) (tp : List ℕ) (tc : List ℤ) : Type 0 where
+  pub running : Held (take n (runningWords ranks)) (take n cs)
+  pub few : n ≤ mostTerms
+  pub first : Held sp sc
+  pub second : Held tp tc
+  pub low : degreeOf (terms sp sc) + degreeOf (terms tp tc) ≤ largestDegree
+  pub light : weight (terms sp sc) * weight (terms tp tc) + weight (firstTerms n (runningWords ranks) cs) ≤ largestWeight
+  pub words-room : placesFor n (length sp * length tp) ≤ length ranks
+  pub coefficients-room : placesFor n (length sp * length tp) ≤ length cs

@@ -1,5 +1,7 @@
 // Rows of products, merged into a running sum. Cancelled patterns stay in a running sum, and count, until it is finished. A running sum and the sums that
-// are multiplied are held by ranks instead of words, in `sr` and `tr`: ranks add up as words do, and two of them compare as numbers.
+// are multiplied are held by ranks instead of words, in `sr` and `tr`: ranks add up as words do, and two of them compare as numbers. Other crates see no rank:
+// they begin a running sum in two areas of their own, add products to it and finish it, all by words.
+use crate::FEW_TERMS;
 use crate::Formed;
 use crate::MOST_PLACES;
 use algebra::MOST_TERMS;
@@ -13,6 +15,7 @@ ghost use Prim.Native.Nat.{_+_, _*_, _-_, _≤_, Ordering·lt};
 ghost use lib.Dec.{eqb};
 ghost use lib.IntN.{pos};
 ghost use lib.ListN.{length, getD, take};
+ghost use Rattle.algebra.specs.Limits.{mostTerms};
 ghost use Rattle.algebra.specs.Pattern.{order};
 ghost use Rattle.algebra.specs.Collect.{dropZeros};
 ghost use Rattle.algebra.specs.Arithmetic.{pairs};
@@ -24,11 +27,11 @@ ghost use Rattle.answers.specs.Areas.{written, cleared};
 ghost use Rattle.sums.specs.Held.{Held};
 ghost use Rattle.sums.specs.Asked.{Room};
 ghost use Rattle.sums.specs.Formed.{formedOf, Formed.formed, withRow, formedInto};
-ghost use Rattle.sums.specs.Rows.{CanMerge, joined, joinedInto, Gapped, closed, Stands, CanAdd, Added, rankedInto};
+ghost use Rattle.sums.specs.Rows.{CanMerge, joined, joinedInto, Gapped, closed, Stands, CanAdd, Added};
+ghost use Rattle.sums.specs.Rows.{runningInto, runningWords, placesFor, CanAddProduct};
 
 // The ranks of words.
-// Asks that the words are valid, and there is room for their ranks.
-pub fn rank_words(words: &[u64], ranks: &mut [u64])
+pub(crate) fn rank_words(words: &[u64], ranks: &mut [u64])
     requires { ⌜ EachValid (now words) ⌝ }
     requires { ⌜ length (now words) ≤ length (now ranks) ⌝ }
     ensures { λ r. ⌜ now (ranks .exit) ≡ written (map rankOf (now (words .entry))) (now (ranks .entry)) ⌝ }
@@ -46,7 +49,8 @@ fn last_stands(ranks: &[u64], i: usize, rank: u64) -> Standing
     requires { ⌜ i ≤ length (now ranks) ⌝ }
     requires { ⌜ EachValid (take i (wordsAt (now ranks))) ⌝ }
     requires { ⌜ Valid (wordAt rank) ⌝ }
-    ensures { λ r. ⌜ standing r ≡ cond (eqb i 0) Ordering·lt (order (exponents (getD (wordsAt (now (ranks .entry))) (i - 1) 0)) (exponents (wordAt rank))) ⌝ }
+    ensures { λ r. ⌜ standing r
+        ≡ cond (eqb i 0) Ordering·lt (order (exponents (getD (wordsAt (now (ranks .entry))) (i - 1) 0)) (exponents (wordAt rank))) ⌝ }
 {
     if i == 0 {
         return Standing::Before;
@@ -79,7 +83,8 @@ fn merge(
     tc: &[i64],
 ) -> Gap
     requires { ⌜ CanMerge (wordsAt (now ranks)) (now coefficients) n (wordAt rank) c (wordsAt (now tr)) (now tc) ⌝ }
-    ensures { λ r. ⌜ Gapped (joined c (wordAt rank) (wordsAt (now (tr .entry))) (now (tc .entry)) n (wordsAt (now (ranks .entry))) (now (coefficients .entry)))
+    ensures { λ r. ⌜ Gapped
+        (joined c (wordAt rank) (wordsAt (now (tr .entry))) (now (tc .entry)) n (wordsAt (now (ranks .entry))) (now (coefficients .entry)))
         (wordsAt (now (ranks .exit))) (now (coefficients .exit)) (r .from) (r .to) (n + length (now (tr .entry))) ⌝ }
 {
     let mut i = n;
@@ -151,7 +156,8 @@ fn merge_row(
     tc: &[i64],
 ) -> usize
     requires { ⌜ CanMerge (wordsAt (now ranks)) (now coefficients) n (wordAt rank) c (wordsAt (now tr)) (now tc) ⌝ }
-    ensures { λ r. ⌜ Stands (joined c (wordAt rank) (wordsAt (now (tr .entry))) (now (tc .entry)) n (wordsAt (now (ranks .entry))) (now (coefficients .entry)))
+    ensures { λ r. ⌜ Stands
+        (joined c (wordAt rank) (wordsAt (now (tr .entry))) (now (tc .entry)) n (wordsAt (now (ranks .entry))) (now (coefficients .entry)))
         r (wordsAt (now (ranks .exit))) (now (coefficients .exit)) ⌝ }
 {
     let end = n + tr.len();
@@ -230,8 +236,10 @@ pub(crate) fn add_pairs(
 ) -> Formed
     requires { ⌜ CanAdd (wordsAt (now ranks)) (now coefficients) n (wordsAt (now sr)) (now sc) (wordsAt (now tr)) (now tc) ⌝ }
     ensures { λ r. ⌜ Added
-        (withRow (pairs (terms (wordsAt (now (sr .entry))) (now (sc .entry))) (terms (wordsAt (now (tr .entry))) (now (tc .entry))))
-        (firstTerms n (wordsAt (now (ranks .entry))) (now (coefficients .entry)))) (formedOf r) (wordsAt (now (ranks .exit))) (now (coefficients .exit)) ⌝ }
+        (withRow
+        (pairs (terms (wordsAt (now (sr .entry))) (now (sc .entry))) (terms (wordsAt (now (tr .entry))) (now (tc .entry))))
+        (firstTerms n (wordsAt (now (ranks .entry))) (now (coefficients .entry))))
+        (formedOf r) (wordsAt (now (ranks .exit))) (now (coefficients .exit)) ⌝ }
 {
     let mut all = n;
     let mut k = 0;
@@ -246,9 +254,21 @@ pub(crate) fn add_pairs(
     Formed::Terms(all)
 }
 
-// The same for other crates: all places after the sum are cleared, and without a sum all places.
-// Asks that running sum and operands are held, degree and weight of the result are within the limits, and there is room for one row more.
-pub fn add_product(
+// The places that a running sum of n terms takes up while so many pairs are added to it.
+fn places(n: usize, pairs: usize) -> usize
+    requires { ⌜ n ≤ mostTerms ⌝ }
+    requires { ⌜ pairs ≤ mostTerms * mostTerms ⌝ }
+    ensures { λ r. ⌜ r ≡ placesFor n pairs ⌝ }
+{
+    let all = n + pairs;
+    if all < MOST_PLACES {
+        return all;
+    }
+    MOST_PLACES
+}
+
+// All pairs of two sums go into a running sum of n terms, with a row for each term of the shorter of the two.
+fn add_straight(
     ranks: &mut [u64],
     coefficients: &mut [i64],
     n: usize,
@@ -257,13 +277,77 @@ pub fn add_product(
     tr: &[u64],
     tc: &[i64],
 ) -> Formed
-    requires { ⌜ CanAdd (wordsAt (now ranks)) (now coefficients) n (wordsAt (now sr)) (now sc) (wordsAt (now tr)) (now tc) ⌝ }
-    ensures { λ r. ⌜ (formedOf r, now (ranks .exit), now (coefficients .exit))
-        ≡ rankedInto (withRow (pairs (terms (wordsAt (now (sr .entry))) (now (sc .entry))) (terms (wordsAt (now (tr .entry))) (now (tc .entry))))
-        (firstTerms n (wordsAt (now (ranks .entry))) (now (coefficients .entry)))) (cleared 0 (length (now (ranks .entry))) (now (ranks .entry)))
+    requires { ⌜ CanAddProduct (now ranks) (now coefficients) n (wordsAt (now sr)) (now sc) (wordsAt (now tr)) (now tc) ⌝ }
+    ensures { λ r. ⌜ Added
+        (withRow
+        (pairs (terms (wordsAt (now (sr .entry))) (now (sc .entry))) (terms (wordsAt (now (tr .entry))) (now (tc .entry))))
+        (firstTerms n (wordsAt (now (ranks .entry))) (now (coefficients .entry))))
+        (formedOf r) (wordsAt (now (ranks .exit))) (now (coefficients .exit)) ⌝ }
+{
+    if sr.len() < tr.len() {
+        return add_pairs(ranks, coefficients, n, sr, sc, tr, tc);
+    }
+    add_pairs(ranks, coefficients, n, tr, tc, sr, sc)
+}
+
+// The same, but more rows than one are formed apart, in two other arrays, and go into the running sum as one row: it is long, and every row would move its
+// terms.
+fn add_apart(
+    ranks: &mut [u64],
+    coefficients: &mut [i64],
+    n: usize,
+    sr: &[u64],
+    sc: &[i64],
+    tr: &[u64],
+    tc: &[i64],
+) -> Formed
+    requires { ⌜ CanAddProduct (now ranks) (now coefficients) n (wordsAt (now sr)) (now sc) (wordsAt (now tr)) (now tc) ⌝ }
+    ensures { λ r. ⌜ Added
+        (withRow
+        (pairs (terms (wordsAt (now (sr .entry))) (now (sc .entry))) (terms (wordsAt (now (tr .entry))) (now (tc .entry))))
+        (firstTerms n (wordsAt (now (ranks .entry))) (now (coefficients .entry))))
+        (formedOf r) (wordsAt (now (ranks .exit))) (now (coefficients .exit)) ⌝ }
+{
+    if sr.len() < 2 || tr.len() < 2 {
+        return add_straight(ranks, coefficients, n, sr, sc, tr, tc);
+    }
+    let mut hr = [0u64; MOST_PLACES];
+    let mut hc = [0i64; MOST_PLACES];
+    let product = add_straight(&mut hr, &mut hc, 0, sr, sc, tr, tc);
+    let Formed::Terms(together) = product else {
+        return product;
+    };
+    // The other factor is 1: the rank 0 is that of the empty pattern.
+    add_straight(
+        ranks,
+        coefficients,
+        n,
+        &hr[0..together],
+        &hc[0..together],
+        &[0],
+        &[1],
+    )
+}
+
+// The same, and all places after the sum are cleared; without a sum all places.
+fn add_cleared(
+    ranks: &mut [u64],
+    coefficients: &mut [i64],
+    n: usize,
+    sr: &[u64],
+    sc: &[i64],
+    tr: &[u64],
+    tc: &[i64],
+) -> Formed
+    requires { ⌜ CanAddProduct (now ranks) (now coefficients) n (wordsAt (now sr)) (now sc) (wordsAt (now tr)) (now tc) ⌝ }
+    ensures { λ r. ⌜ (formedOf r, now (ranks .exit), now (coefficients .exit)) ≡ runningInto
+        (withRow
+        (pairs (terms (wordsAt (now (sr .entry))) (now (sc .entry))) (terms (wordsAt (now (tr .entry))) (now (tc .entry))))
+        (firstTerms n (wordsAt (now (ranks .entry))) (now (coefficients .entry))))
+        (cleared 0 (length (now (ranks .entry))) (now (ranks .entry)))
         (cleared (pos 0) (length (now (coefficients .entry))) (now (coefficients .entry))) ⌝ }
 {
-    let formed = add_pairs(ranks, coefficients, n, sr, sc, tr, tc);
+    let formed = add_apart(ranks, coefficients, n, sr, sc, tr, tc);
     let all = match formed {
         Formed::Terms(all) => all,
         Formed::Over => 0,
@@ -278,13 +362,99 @@ pub fn add_product(
     formed
 }
 
+// All pairs of two sums that are given by words. Their ranks go into two areas that are lent for them; of the running sum's areas no more places are lent
+// than are needed, since they are cleared.
+fn add_product_in(
+    ranks: &mut [u64],
+    coefficients: &mut [i64],
+    n: usize,
+    sp: &[u64],
+    sc: &[i64],
+    tp: &[u64],
+    tc: &[i64],
+    sr: &mut [u64],
+    tr: &mut [u64],
+) -> Formed
+    requires { ⌜ CanAddProduct (now ranks) (now coefficients) n (now sp) (now sc) (now tp) (now tc) ⌝ }
+    requires { ⌜ length (now sp) ≤ length (now sr) ⌝ }
+    requires { ⌜ length (now tp) ≤ length (now tr) ⌝ }
+    ensures { λ r. ⌜ (formedOf r, now (ranks .exit), now (coefficients .exit)) ≡ runningInto
+        (withRow
+        (pairs (terms (now (sp .entry)) (now (sc .entry))) (terms (now (tp .entry)) (now (tc .entry))))
+        (firstTerms n (runningWords (now (ranks .entry))) (now (coefficients .entry))))
+        (cleared 0 (placesFor n (length (now (sp .entry)) * length (now (tp .entry)))) (now (ranks .entry)))
+        (cleared (pos 0) (placesFor n (length (now (sp .entry)) * length (now (tp .entry)))) (now (coefficients .entry))) ⌝ }
+{
+    let m = sp.len();
+    let w = tp.len();
+    rank_words(sp, sr);
+    rank_words(tp, tr);
+    let end = places(n, m * w);
+    add_cleared(
+        &mut ranks[0..end],
+        &mut coefficients[0..end],
+        n,
+        &sr[0..m],
+        sc,
+        &tr[0..w],
+        tc,
+    )
+}
+
+// ---- A running sum for other crates. It stands in two areas of the caller's that it does not open.
+
+// A sum is put there.
+// Asks that the sum is held, and there is room for its terms.
+pub fn begin(sp: &[u64], sc: &[i64], ranks: &mut [u64], coefficients: &mut [i64])
+    requires { ⌜ Held (now sp) (now sc) ⌝ }
+    requires { ⌜ length (now sp) ≤ length (now ranks) ⌝ }
+    requires { ⌜ length (now sp) ≤ length (now coefficients) ⌝ }
+    ensures { λ r. ⌜ now (ranks .exit) ≡ written (map rankOf (now (sp .entry))) (now (ranks .entry)) ⌝ }
+    ensures { λ r. ⌜ now (coefficients .exit) ≡ written (now (sc .entry)) (now (coefficients .entry)) ⌝ }
+{
+    rank_words(sp, ranks);
+    areas::copy_coefficients(coefficients, sc, sc.len());
+}
+
+// Adds all pairs of two sums, by words, to a running sum of n terms. The places that it takes up meanwhile are cleared after the sum, and without a sum all of
+// them; all others stay. Two small sums are ranked in small arrays: to clear large ones would take longer than to add the pairs.
+// Asks that running sum and operands are held, degree and weight of the result are within the limits, and both areas have room for all pairs, or 256 places.
+pub fn add_product(
+    ranks: &mut [u64],
+    coefficients: &mut [i64],
+    n: usize,
+    sp: &[u64],
+    sc: &[i64],
+    tp: &[u64],
+    tc: &[i64],
+) -> Formed
+    requires { ⌜ CanAddProduct (now ranks) (now coefficients) n (now sp) (now sc) (now tp) (now tc) ⌝ }
+    ensures { λ r. ⌜ (formedOf r, now (ranks .exit), now (coefficients .exit)) ≡ runningInto
+        (withRow
+        (pairs (terms (now (sp .entry)) (now (sc .entry))) (terms (now (tp .entry)) (now (tc .entry))))
+        (firstTerms n (runningWords (now (ranks .entry))) (now (coefficients .entry))))
+        (cleared 0 (placesFor n (length (now (sp .entry)) * length (now (tp .entry)))) (now (ranks .entry)))
+        (cleared (pos 0) (placesFor n (length (now (sp .entry)) * length (now (tp .entry)))) (now (coefficients .entry))) ⌝ }
+{
+    if sp.len() <= FEW_TERMS {
+        if tp.len() <= FEW_TERMS {
+            let mut sr = [0u64; FEW_TERMS];
+            let mut tr = [0u64; FEW_TERMS];
+            return add_product_in(ranks, coefficients, n, sp, sc, tp, tc, &mut sr, &mut tr);
+        }
+    }
+    let mut sr = [0u64; MOST_TERMS];
+    let mut tr = [0u64; MOST_TERMS];
+    add_product_in(ranks, coefficients, n, sp, sc, tp, tc, &mut sr, &mut tr)
+}
+
 // The operation is complete: the terms of a running sum that have not cancelled are written to two areas, by words again.
 // Asks that the running sum is held, and both areas have 128 places.
 pub fn finish(sr: &[u64], sc: &[i64], patterns: &mut [u64], coefficients: &mut [i64]) -> Formed
-    requires { ⌜ Held (wordsAt (now sr)) (now sc) ⌝ }
+    requires { ⌜ Held (runningWords (now sr)) (now sc) ⌝ }
     requires { ⌜ Room (now patterns) (now coefficients) ⌝ }
     ensures { λ r. ⌜ (formedOf r, now (patterns .exit), now (coefficients .exit))
-        ≡ formedInto (formed (dropZeros (terms (wordsAt (now (sr .entry))) (now (sc .entry))))) (now (patterns .entry)) (now (coefficients .entry)) ⌝ }
+        ≡ formedInto (formed (dropZeros (terms (runningWords (now (sr .entry))) (now (sc .entry))))) (now (patterns .entry)) (now (coefficients .entry)) ⌝ }
 {
     let n = sr.len();
     let mut count = 0;

@@ -1,32 +1,27 @@
--- `take_part` meets its contract: the loop keeps `Taking`, of the words.
-use mathlib.Core.Path.{sym, _∙_, ap, subst}
+-- `take_part` meets its contract: the loop keeps `Taking`.
 use Prim.Native.Nat.{_-_}
 use native.Mathlib.Omega.{arith}
 use borrow.Author.Needs.{needs}
 use lib.IntN.{pos}
-use lib.ListN.{length, getD, length-map}
+use lib.ListN.{length, getD}
 use mir.Syntax.{w64}
 use mir.ValLaws.{toZ-ofZ}
-use Rattle.algebra.specs.Word.{Valid}
-use Rattle.algebra.specs.Inside.Rank.{wordAt, wordsAt}
-use Rattle.algebra.proofs.Patterns.Word.{without-valid}
-use Rattle.algebra.proofs.Patterns.Rank.{word-at-rank, words-set}
 use Rattle.sums.proofs.Holding.{as-many}
 use Rattle.pair.proofs.TakingPart.{Taking, start, next-valid, skips, takes, ended}
 use Rattle.pair.proofs.putting.take_part.Statement.{statement}
 use Rattle.pair.proofs.putting.take_part.Tie as tie
 
 abbrev Inv-loop : tie.InvT-loop
-Inv-loop v k fp fc pr₀ pc₀ count₀ i₀ pr pc count i = Taking v k fp fc (wordsAt pr₀) pc₀ (wordsAt pr) pc count i
+Inv-loop v k fp fc pp₀ pc₀ count₀ i₀ pp pc count i = Taking v k fp fc pp₀ pc₀ pp pc count i
 
 abbrev μ-loop : tie.MeasureT-loop
-μ-loop v k fp fc pr₀ pc₀ count₀ i₀ pr pc count i = length fp - i
+μ-loop v k fp fc pp₀ pc₀ count₀ i₀ pp pc count i = length fp - i
 
 loop-holds : tie.Need-loop-holds Inv-loop μ-loop
 loop-holds c =
     let entry = c .before .before in
     let pre = entry .pre in
-    start _ _ _ _ _ _ (pre .0) (pre .1 .0) (omega (arith, pre .1 .1 .words, length-map (entry .args .pr .now) wordAt)) (pre .1 .1 .coefficients)
+    start _ _ _ _ _ _ (pre .0) (pre .1 .0) (pre .1 .1 .words) (pre .1 .1 .coefficients)
 
 mul-if1 : tie.Need-mul-if1 Inv-loop μ-loop
 mul-if1 c = search needs
@@ -46,23 +41,11 @@ shared-slice-copy-out-c c = omega (arith, as-many (c .before .before .before .be
 without-requires : tie.Need-without-requires Inv-loop μ-loop
 without-requires c κs = (next-valid (c .before .before .before .before .before .loop .inv) (c .before .before .before .before .loop-test .taken), c .before .before .before .before .before .loop .inv .known)
 
-rest-valid : (d : tie.After-without Inv-loop μ-loop) → Valid (d .without .result .0)
-rest-valid d =
-    let loop = d .before .before .before .before .before .before .loop in
-    let word = getD (d .before .before .before .before .before .before .before .before .before .args .fp .now) (loop .i) 0 in
-    subst Valid (sym (d .without .ensures)) (without-valid word _ (loop .inv .known) (next-valid (loop .inv) (d .before .before .before .before .before .loop-test .taken)))
+mul-pp : tie.Need-mul-pp Inv-loop μ-loop
+mul-pp c = search needs
 
-rank-requires : tie.Need-rank-requires Inv-loop μ-loop
-rank-requires c κs = rest-valid c
-
-mul-pr : tie.Need-mul-pr Inv-loop μ-loop
-mul-pr c = search needs
-
-slice-write-pr : tie.Need-slice-write-pr Inv-loop μ-loop
-slice-write-pr c =
-    let loop = c .before .before .before .before .before .before .before .loop in
-    let f = loop .inv in
-    omega (arith, f .fewer, f .words-room, f .into .few, f .stored .same-words, length-map (loop .pr) wordAt, c .before .before .before .before .before .before .loop-test .taken)
+slice-write-pp : tie.Need-slice-write-pp Inv-loop μ-loop
+slice-write-pp c = search needs
 
 mul-c-2 : tie.Need-mul-c-2 Inv-loop μ-loop
 mul-c-2 c = search needs
@@ -81,12 +64,10 @@ loop-less c = search needs
 
 loop-again : tie.Need-loop-again Inv-loop μ-loop
 loop-again c =
-    let d = c .before in
-    let loop = c .before .before .before .before .before .before .before .loop in
-    let value = getD (c .before .before .before .before .before .before .before .before .before .before .args .fc .now) (loop .i) (pos 0) in
-    let is = ap wordAt (c .rank .ensures) ∙ word-at-rank (d .without .result .0) (rest-valid d) ∙ d .without .ensures in
-    rw (toZ-ofZ w64 value (record { sfits = c .before .before .c .given }), words-set (loop .pr) (loop .count) (c .rank .result))
-    (takes (loop .inv) (c .before .before .before .before .before .before .loop-test .taken) (c .before .before .before .before .exponent .ensures) (c .before .before .before .if1 .taken) is)
+    let loop = c .before .before .before .before .before .before .loop in
+    let value = getD (c .before .before .before .before .before .before .before .before .before .args .fc .now) (loop .i) (pos 0) in
+    rw (toZ-ofZ w64 value (record { sfits = c .before .c .given }))
+    (takes (loop .inv) (c .before .before .before .before .before .loop-test .taken) (c .before .before .before .exponent .ensures) (c .before .before .if1 .taken) (c .without .ensures))
 
 add-i-2 : tie.Need-add-i-2 Inv-loop μ-loop
 add-i-2 c = search needs
@@ -98,7 +79,7 @@ loop-again-2 : tie.Need-loop-again-2 Inv-loop μ-loop
 loop-again-2 c = skips (c .before .before .before .before .loop .inv) (c .before .before .before .loop-test .taken) (c .before .exponent .ensures) (c .if1 .left)
 
 same-length : tie.Need-same-length Inv-loop μ-loop
-same-length c = omega (arith, c .before .loop .inv .stored .same-words, length-map (c .before .loop .pr) wordAt, length-map (c .before .before .before .before .args .pr .now) wordAt)
+same-length c = search needs
 
 same-length-2 : tie.Need-same-length-2 Inv-loop μ-loop
 same-length-2 c = search needs
@@ -119,9 +100,8 @@ take-part-spec =
     mul-c
     shared-slice-copy-out-c
     without-requires
-    rank-requires
-    mul-pr
-    slice-write-pr
+    mul-pp
+    slice-write-pp
     mul-c-2
     slice-set-from-c
     add-count

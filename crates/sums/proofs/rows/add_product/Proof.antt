@@ -1,82 +1,16 @@
--- `add_product` meets its contract: the pairs are added, and the places after the sum, or all places, are cleared.
-use mathlib.Core.Path.{_≡_, sym, _∙_, ap}
-use mathlib.Core.Logic.{⊎-elim}
-use Prim.Native.Nat.{_≤_}
+-- `add_product` meets its contract: the arrays, small or large, have room for the ranks of the operands.
 use borrow.Author.Needs.{needs}
-use lib.ListN.{length}
-use Rattle.algebra.specs.Arithmetic.{pairs}
-use Rattle.algebra.specs.Word.{terms}
-use Rattle.algebra.specs.Inside.Rank.{wordsAt}
-use Rattle.algebra.specs.Held.{firstTerms}
-use Rattle.sums.specs.Formed.{formedOf, withRow}
-use Rattle.sums.specs.Rows.{Added}
-use Rattle.sums.proofs.Pairing.{answer-holdable}
-use Rattle.sums.proofs.Clearing.{numberOf, number-inside, ranks-stand, cleared-into}
 use Rattle.sums.proofs.rows.add_product.Statement.{statement}
 use Rattle.sums.proofs.rows.add_product.Tie as tie
 
--- in either case `all` is the number of terms that stand in the areas
-known : (d : tie.At-match-came)
-    → (d .match .formed ≡ d .before .before .before .before .add-pairs .result) × (d .match .all ≡ numberOf (formedOf (d .match .formed)))
-known d =
-    ⊎-elim (λ w. (w .3 ∙ sym (w .1 .given .1), w .4 ∙ ap (λ r. numberOf (formedOf r)) (sym (w .3))))
-    (λ w. (w .2, w .3 ∙ ap (λ r. numberOf (formedOf r)) (sym (w .2 ∙ w .1 .given .1)))) (d .match .came)
+slice-aggregate-add-product-in : tie.Need-slice-aggregate-add-product-in
+slice-aggregate-add-product-in c = search needs
 
-added : (d : tie.At-match-came)
-    → let call = d .before .before .before .before in
-    let args = call .before .before .before .before .before .before .args in
-    Added (withRow (pairs (terms (wordsAt (args .sr .now)) (args .sc .now)) (terms (wordsAt (args .tr .now)) (args .tc .now))) (firstTerms (args .n) (wordsAt (args .ranks .now)) (args .coefficients .now)))
-    (formedOf (d .match .formed)) (wordsAt (call .add-pairs .last .0)) (call .add-pairs .last .1 .0)
-added d = rw (known d .0) (d .before .before .before .before .add-pairs .ensures)
+slice-aggregate-add-product-in-2 : tie.Need-slice-aggregate-add-product-in-2
+slice-aggregate-add-product-in-2 c = search needs
 
-inside : (d : tie.At-match-came)
-    → let call = d .before .before .before .before in (d .match .all ≤ length (call .add-pairs .last .0)) × (d .match .all ≤ length (call .add-pairs .last .1 .0))
-inside d = number-inside _ (d .before .before .before .before .add-pairs .last .0) (added d) (known d .1)
-
-add-pairs-requires : tie.Need-add-pairs-requires
-add-pairs-requires c κs = search needs
-
-enum-known-formed : tie.Need-enum-known-formed
-enum-known-formed c = search needs
-
-enum-told : tie.Need-enum-told
-enum-told c = search needs
-
-mul-clear-words : tie.Need-mul-clear-words
-mul-clear-words c = let few = inside (c .before) .0 in search needs
-
-sub-clear-words : tie.Need-sub-clear-words
-sub-clear-words c = inside (c .before) .0
-
-part-clear-words-start : tie.Need-part-clear-words-start
-part-clear-words-start c = inside (c .before) .0
-
-part-clear-words-end : tie.Need-part-clear-words-end
-part-clear-words-end c = search needs
-
-sub-clear-words-2 : tie.Need-sub-clear-words-2
-sub-clear-words-2 c = inside (c .before .before) .0
-
-clear-words-requires : tie.Need-clear-words-requires
-clear-words-requires c κs = search needs
-
-mul-clear-coefficients : tie.Need-mul-clear-coefficients
-mul-clear-coefficients c = let few = inside (c .before .before .before .before .before) .1 in search needs
-
-sub-clear-coefficients : tie.Need-sub-clear-coefficients
-sub-clear-coefficients c = inside (c .before .before .before .before .before) .1
-
-part-clear-coefficients-start : tie.Need-part-clear-coefficients-start
-part-clear-coefficients-start c = inside (c .before .before .before .before .before) .1
-
-part-clear-coefficients-end : tie.Need-part-clear-coefficients-end
-part-clear-coefficients-end c = search needs
-
-sub-clear-coefficients-2 : tie.Need-sub-clear-coefficients-2
-sub-clear-coefficients-2 c = inside (c .before .before .before .before .before .before) .1
-
-clear-coefficients-requires : tie.Need-clear-coefficients-requires
-clear-coefficients-requires c κs = search needs
+add-product-in-requires : tie.Need-add-product-in-requires
+add-product-in-requires c κs = search needs
 
 same-length : tie.Need-same-length
 same-length c = search needs
@@ -85,33 +19,39 @@ same-length-2 : tie.Need-same-length-2
 same-length-2 c = search needs
 
 returns : tie.Need-returns
-returns c =
-    let d = c .before .before .before .before .before .before .before .before in
-    let call = d .before .before .before .before in
-    let args = call .before .before .before .before .before .before .args in
-    cleared-into (args .ranks .now) (args .coefficients .now) (call .add-pairs .last .0) (call .add-pairs .last .1 .0) (d .match .all) (known d .1) (call .add-pairs .kept .0) (call .add-pairs .kept .1 .0)
-    (c .before .before .before .before .before .clear-words .ensures) (c .before .clear-coefficients .ensures) _ (added d)
-    (ranks-stand (call .add-pairs .last .0) (added d) (λ i. d .before .before .slice-known2 .given i .fits) (answer-holdable (call .before .before .before .before .before .before .pre)))
+returns c = search needs
+
+slice-aggregate-add-product-in-3 : tie.Need-slice-aggregate-add-product-in-3
+slice-aggregate-add-product-in-3 c = search needs
+
+slice-aggregate-add-product-in-4 : tie.Need-slice-aggregate-add-product-in-4
+slice-aggregate-add-product-in-4 c = search needs
+
+add-product-in-requires-2 : tie.Need-add-product-in-requires-2
+add-product-in-requires-2 c κs = let pre = c .before .before .before .before .before .before .before .before .pre in (pre, (pre .first .few, pre .second .few))
+
+same-length-3 : tie.Need-same-length-3
+same-length-3 c = search needs
+
+same-length-4 : tie.Need-same-length-4
+same-length-4 c = search needs
+
+returns-2 : tie.Need-returns-2
+returns-2 c = search needs
 
 pub add-product-spec : {M : Type 1} → statement M
 add-product-spec =
     tie.close
     (tie.spec
-    add-pairs-requires
-    enum-known-formed
-    enum-told
-    mul-clear-words
-    sub-clear-words
-    part-clear-words-start
-    part-clear-words-end
-    sub-clear-words-2
-    clear-words-requires
-    mul-clear-coefficients
-    sub-clear-coefficients
-    part-clear-coefficients-start
-    part-clear-coefficients-end
-    sub-clear-coefficients-2
-    clear-coefficients-requires
+    slice-aggregate-add-product-in
+    slice-aggregate-add-product-in-2
+    add-product-in-requires
     same-length
     same-length-2
-    returns)
+    returns
+    slice-aggregate-add-product-in-3
+    slice-aggregate-add-product-in-4
+    add-product-in-requires-2
+    same-length-3
+    same-length-4
+    returns-2)

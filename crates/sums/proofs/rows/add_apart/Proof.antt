@@ -5,22 +5,29 @@ use native.Mathlib.Nat.{sub-zero}
 use lib.IntN.{pos}
 use lib.ListN.{replicate, length-replicate}
 use Rattle.algebra.specs.Limits.{mostTerms}
-use Rattle.pair.specs.Rows.{RunningRoom}
-use Rattle.pair.proofs.AddingPairs.{Apart, can-form, formed-apart, apart-over, apart-inside, can-join, apart-added}
+use Rattle.algebra.specs.Inside.Rank.{wordsAt}
+use Rattle.sums.proofs.AddingPairs.{Spare, Apart, can-form, formed-apart, apart-over, apart-inside, can-join, apart-added}
 use borrow.Author.Needs.{needs}
-use Rattle.pair.proofs.putting.add_apart.Statement.{statement}
-use Rattle.pair.proofs.putting.add_apart.Tie as tie
+use Rattle.sums.proofs.rows.add_apart.Statement.{statement}
+use Rattle.sums.proofs.rows.add_apart.Tie as tie
 
 -- the two arrays have room
-spare : RunningRoom (replicate (mostTerms + mostTerms) 0) (replicate (mostTerms + mostTerms) (pos 0))
+spare : Spare (replicate (mostTerms + mostTerms) 0) (replicate (mostTerms + mostTerms) (pos 0))
 spare = record { ranks = omega (arith, length-replicate {A = ℕ} (mostTerms + mostTerms) 0); coefficients = omega (arith, length-replicate (mostTerms + mostTerms) (pos 0)) }
+
+-- what was known at the start, seen from where the pairs are formed apart
+abbrev first : tie.After-add-straight2 → tie.Start
+first d = d .before .before .before .before .before .before .before .before
 
 -- the pairs stand in them
 stand : (d : tie.After-known-told)
-    → let args = d .before .before .before .before .before .before .before .before .before .before .before .before .before .args in
-    let formed = d .before .before .before .before .before .add-straight2 in
-    Apart (args .gr .now) (args .gc .now) (args .n) (args .sr .now) (args .sc .now) (args .tr .now) (args .tc .now) (formed .last .0) (formed .last .1 .0) (d .before .product .given .0 .0)
-stand d = let formed = d .before .before .before .before .before .add-straight2 in formed-apart (d .before .before .before .before .before .before .before .before .before .before .before .before .before .pre) spare (formed .result) (formed .last .0) (formed .ensures) (d .before .product .given .1)
+    → let e = d .before .before .before .before .before in
+    let args = first e .args in
+    Apart (args .ranks .now) (args .coefficients .now) (args .n) (wordsAt (args .sr .now)) (args .sc .now) (wordsAt (args .tr .now)) (args .tc .now) (e .add-straight2 .last .0) (e .add-straight2 .last .1 .0) (d .before .product .given .0 .0)
+stand d =
+    let e = d .before .before .before .before .before in
+    let formed = e .add-straight2 in
+    formed-apart (first e .args .sr .now) (first e .args .tr .now) (first e .pre) spare (formed .result) (formed .last .0) (formed .ensures) (d .before .product .given .1)
 
 add-straight-requires : tie.Need-add-straight-requires
 add-straight-requires c κs = search needs
@@ -41,7 +48,9 @@ slice-aggregate-add-straight-2 : tie.Need-slice-aggregate-add-straight-2
 slice-aggregate-add-straight-2 c = search needs
 
 add-straight-requires-2 : tie.Need-add-straight-requires-2
-add-straight-requires-2 c κs = can-form (c .before .before .before .before .before .before .before .pre) spare
+add-straight-requires-2 c κs =
+    let entry = c .before .before .before .before .before .before .before in
+    can-form (entry .args .sr .now) (entry .args .tr .now) (entry .pre) spare
 
 enum-known-product : tie.Need-enum-known-product
 enum-known-product c = search needs
@@ -50,7 +59,10 @@ enum-told : tie.Need-enum-told
 enum-told c = search needs
 
 returns-2 : tie.Need-returns-2
-returns-2 c = let formed = c .before .before .before .before .add-straight2 in apart-over (c .before .before .before .before .before .before .before .before .before .before .before .before .pre) spare (formed .result) (formed .last .0) (formed .ensures) (c .before .match .keys2)
+returns-2 c =
+    let e = c .before .before .before .before in
+    let formed = e .add-straight2 in
+    apart-over (first e .args .sr .now) (first e .args .tr .now) (first e .pre) spare (formed .result) (formed .last .0) (formed .ensures) (c .before .match .keys2)
 
 sub-add-straight : tie.Need-sub-add-straight
 sub-add-straight c = search needs

@@ -12,14 +12,14 @@ use Rattle.algebra.specs.Word.{terms}
 use Rattle.algebra.specs.Inside.Rank.{wordsAt}
 use Rattle.algebra.specs.Held.{wordsOf}
 use Rattle.algebra.proofs.Numbers.Whole.{*ℤ-oner}
-use Rattle.algebra.proofs.Patterns.Laws.{times-comm, empty-times, empty-degree, empty-length}
+use Rattle.algebra.proofs.Patterns.Laws.{times-comm, empty-times, empty-degree}
 use Rattle.algebra.proofs.Patterns.Word.{word-empty}
 use Rattle.algebra.proofs.Patterns.Rank.{word-at-zero}
 use Rattle.algebra.proofs.Sums.Every.{Every, Long}
 use Rattle.algebra.proofs.Sums.Ordered.{parts}
 use Rattle.algebra.proofs.Sums.Results.{unit-ordered}
 use Rattle.sums.specs.Held.{Held}
 use Rattle.sums.proofs.Holding.{Holdable, spells, holds}
 
 pub unit-degree : degreeOf (oneSum variables) ≡ 0
 unfolding degreeOf
