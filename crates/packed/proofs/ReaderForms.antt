@@ -53,8 +53,8 @@ item = record {
   Says = λ s n r. itemOf r ≡ readNumber s n;
 }
 
-abbrev pub eight : Form
-eight = record {
+abbrev pub inWord : Form
+inWord = record {
   row = u64;
   mir = tyInt w64;
   typed = λ 𝓤 H A W r u is. uint-lawful 𝓤 H A W w64 .typed r _ is .0;

@@ -109,7 +109,7 @@ module _ (bytes : List ℕ) (byte : (i : ℕ) → getD bytes i 0 < 256) (reading
             of-bytes = p;
             given = g;
             within = h;
-            sixteen = refl;
+            number-is = refl;
             area-is = refl;
           })
 

@@ -42,7 +42,7 @@ module _ (bytes : List ℕ) (byte : (i : ℕ) → getD bytes i 0 < 256) (reading
   estimate-within : Hearable narrowUnit (estimate bytes readings tolerances area .answer)
   estimate-within =
       within (estimate bytes readings tolerances area)
-      (λ n a e. omega (arith, estimate-means bytes byte readings tolerances area e .sixteen))
+      (λ n a e. omega (arith, estimate-means bytes byte readings tolerances area e .number-is))
       (λ r p a e. let d = estimate-refuses bytes byte readings tolerances area e in record { numbered = refusal-numbered d; below = refusal-place d })
 
   pub estimate-fits : T (fitsHost narrowUnit (estimate bytes readings tolerances area .answer))

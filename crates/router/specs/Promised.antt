@@ -25,7 +25,7 @@ pub record Estimated (bytes readings tolerances area : List ℕ) (n : ℕ) (area
   pub of-bytes : PackedSum bytes sum
   pub given : Given readings tolerances rs ts
   pub within : size sum (raisedBy rs ts) ≤ largestWeight
-  pub sixteen : n ≡ answerBytes
+  pub number-is : n ≡ answerBytes
   pub area-is : area' ≡ written (answerOf (value sum rs) (margin sum rs ts)) area
 
 -- it is refused: the refusal, its place, and the area, which stays

@@ -9,4 +9,4 @@ use Rattle.packed.proofs.reader.Reader.word.Code as code
 
 pub word-spec : {M : Type 1} → statement M
 unfolding code.routine
-word-spec 𝓤 H 𝓜 𝓖 𝓡 = taken-apart form.eight 𝓤 H 𝓜 𝓖 𝓡 code.env name word-at.name word-at.routine (code.unfolded 𝓤 H 𝓜 𝓡) code.calls-packed·reader·word-at (met 𝓤 H 𝓜 𝓖 𝓡)
+word-spec 𝓤 H 𝓜 𝓖 𝓡 = taken-apart form.inWord 𝓤 H 𝓜 𝓖 𝓡 code.env name word-at.name word-at.routine (code.unfolded 𝓤 H 𝓜 𝓡) code.calls-packed·reader·word-at (met 𝓤 H 𝓜 𝓖 𝓡)
