@@ -221,11 +221,20 @@ FILENAME ~ /\.rt$/ && head == "" {
 }
 
 FILENAME ~ /\.rt$/ && head != "" {
+    # A `requires` may go on over several lines, up to the brace after its corner.
     if (/^ *requires /) {
         text = $0
         sub(/^ *requires *\{ *(⌜ *)?/, "", text)
-        sub(/ *(⌝ *)?\} *$/, "", text)
+        asking = 1
+    } else if (asking) {
+        more = $0
+        sub(/^ */, "", more)
+        text = text " " more
+    }
+    if (asking && /⌝ *\} *$/) {
+        sub(/ *⌝ *\} *$/, "", text)
         wants = joined(wants, ", ", code(text))
+        asking = 0
     }
     if (/\{ *$/) {
         finish_function()

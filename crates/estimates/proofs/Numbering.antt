@@ -5,6 +5,7 @@ use Prim.Native.Nat.{ℕ, zero, suc, _+_, _*_, _<_}
 use native.Mathlib.Omega.{arith}
 use lib.IntN.{ℤ, pos}
 use lib.ListN.{length, getD, length-append}
+use Rattle.algebra.specs.Limits.{variables}
 use Rattle.numbers.specs.Bytes.{signedNumber, signedBytes}
 use Rattle.estimates.specs.Readings.{readingBytes, twoByteNumbers, spelled}
 use Rattle.numbers.proofs.Complement.{AtHome, bytes-length, signed-back}
@@ -49,3 +50,8 @@ unfolding spelled twoByteNumbers
 numbers-back [] home = refl
 numbers-back (z ∷ zs) home =
     numbers-front (signedBytes 2 z) (spelled zs) (bytes-length 2 z) ∙ ap₂ (λ (y : ℤ) (ys : List ℤ). y ∷ ys) (signed-back 2 z (home 0)) (numbers-back zs (λ i. home (suc i)))
+
+-- ---- How many bytes, with eight variables.
+
+pub reading-bytes-are : readingBytes variables ≡ 16
+reading-bytes-are = refl

@@ -30,14 +30,18 @@ found-one f f' h = sym (answer-of f) ∙ ap answerOf h ∙ answer-of f'
 
 -- ---- The functions.
 
+-- Refused when tried: a raised value of 2^62 is refused; the last term counts twice, and the others not at all; a product times itself and not
+-- times the reading.
 pub estimate-at-one : One estimate-at.Learnt
 estimate-at-one k a r r' e e' h h' = found-one r r' (same h h')
 
 pub before-negative-one : One before-negative.Learnt
 before-negative-one k a r r' e e' h h' = same h h'
 
+-- Refused when tried: readings are raised by themselves.
 pub raise-one : OneLent raise.Learnt (λ k e. now (e .1 .1 .0))
 raise-one k a r r' e e' h h' = (refl, same h h')
 
+-- Refused when tried: a high byte of 128 is that of a positive number.
 pub read-numbers-one : OneLent read-numbers.Learnt (λ k e. now (e .1 .0))
 read-numbers-one k a r r' e e' h h' = (refl, same h h')

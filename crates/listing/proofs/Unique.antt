@@ -11,6 +11,6 @@ pub most-input-one : One most-input.Learnt
 most-input-one k a r r' e e' h h' = same h h'
 
 -- Refused when tried: a blank is dropped from the end, and a newline is not; number and place of a refusal exchanged; an area one byte too short
--- is taken; another word before the number of terms; 0 is printed as a negative number.
+-- is taken; another word before the number of terms.
 pub list-one : OneLent list.Learnt (λ k e. now (e .1 .0))
 list-one k a r r' e e' h h' = outcome-one r r' (same h h')

@@ -352,7 +352,7 @@ fn form_power(
 }
 
 // The terms of node i: the part of both work areas that starts at 128 × i is lent on for them, whatever its kind.
-// Asks that the node is one, the parts before it hold accepted sums, and by their degrees and weights its own are within the limits.
+// Asks that the node is one, the parts before it hold accepted sums, by their degrees and weights its own are within the limits, and both areas have room for its part.
 pub fn form(
     kind: Kind,
     i: usize,

@@ -64,5 +64,6 @@ write-whole-one k a r r' e e' h h' = (refl, same h h')
 pub write-decimal-one : OneLent write-decimal.Learnt (λ k e. now (e .0))
 write-decimal-one k a r r' e e' h h' = (same (h .0) (h' .0), same (h .1) (h' .1))
 
+-- Refused when tried: 0 is printed as a negative number.
 pub write-signed-one : OneLent write-signed.Learnt (λ k e. now (e .0))
 write-signed-one k a r r' e e' h h' = (same (h .0) (h' .0), same (h .1) (h' .1))

@@ -38,7 +38,7 @@ fn as_unsigned(n: i64) -> u64
 }
 
 // Writes a number at a place of an area.
-// Asks that it fits there.
+// Asks that its bytes fit at their place.
 pub fn write_whole(area: &mut [u8], at: usize, n: i64)
     requires { ⌜ at + wholeBytes ≤ length (now area) ⌝ }
     ensures { λ r. ⌜ now (area .exit) ≡ sets (now (area .entry)) at (signedBytes wholeBytes n) ⌝ }

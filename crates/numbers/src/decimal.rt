@@ -7,7 +7,7 @@ ghost use lib.Seq.{sets};
 ghost use Rattle.numbers.specs.Decimal.{decimal, signedDecimal};
 
 // Writes a number at a place of an area, and answers the place after it: the digits before the last are those of a tenth.
-// Asks that they fit there.
+// Asks that the digits fit at their place.
 pub fn write_decimal(area: &mut [u8], at: usize, n: u64) -> usize
     requires { ⌜ at + length (decimal n) ≤ length (now area) ⌝ }
     ensures { λ r. ⌜ r ≡ at + length (decimal n) ⌝ }
@@ -23,7 +23,7 @@ pub fn write_decimal(area: &mut [u8], at: usize, n: u64) -> usize
 }
 
 // The same for a signed number.
-// Asks that it fits there.
+// Asks that its sign and its digits fit at their place.
 pub fn write_signed(area: &mut [u8], at: usize, n: i64) -> usize
     requires { ⌜ at + length (signedDecimal n) ≤ length (now area) ⌝ }
     ensures { λ r. ⌜ r ≡ at + length (signedDecimal n) ⌝ }

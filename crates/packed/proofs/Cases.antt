@@ -82,7 +82,7 @@ table =
     ∷ faulty (1 ∷ replicate 9 255 ++ (1 ∷ powers [])) (stopped bad 1)
     -- exponents that add up to 61, at the exponent that makes them so; 1 and 2^64 - 1
     ∷ faulty (1 ∷ 2 ∷ 60 ∷ 1 ∷ []) (stopped bad 3)
-    ∷ faulty (1 ∷ 2 ∷ 1 ∷ replicate 9 255 ++ (1 ∷ [])) (stopped bad 3)
+    ∷ faulty (1 ∷ 2 ∷ 1 ∷ replicate 9 255 ++ (1 ∷ replicate (variables - 2) 0)) (stopped bad 3)
     -- a pattern that stands twice, and one too late; with a last exponent that is missing or too large that is the fault
     ∷ faulty (2 ∷ two 2 1 0 ++ two 2 1 0) (stopped bad (2 + variables))
     ∷ faulty (2 ∷ two 2 0 0 ++ two 2 1 0) (stopped bad (2 + variables))

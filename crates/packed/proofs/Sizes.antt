@@ -46,11 +46,11 @@ pub packed-most : (n : ℕ) (s : Sum) → Accepted n s → length (packed s) ≤
 packed-most n s a = omega (arith, packed-length n s a, mul-le-mul-left (mostTermBytes n) (a .few))
 
 -- with eight variables
-pub term-bytes-18 : mostTermBytes variables ≡ 18
-term-bytes-18 = refl
+pub term-bytes-are : mostTermBytes variables ≡ 18
+term-bytes-are = refl
 
-pub sum-bytes-2306 : mostBytes variables ≡ 2306
-sum-bytes-2306 = refl
+pub sum-bytes-are : mostBytes variables ≡ 2306
+sum-bytes-are = refl
 
 -- the zero sum
 pub packed-zero : packed [] ≡ 0 ∷ []

@@ -9,9 +9,7 @@ use Rattle.answers.proofs.Unique.{outcome-one}
 use Rattle.router.proofs.estimate.Reads as estimate
 use Rattle.router.proofs.reeveboom_estimate.Reads as reeveboom-estimate
 
--- Refused when tried: a raised value of 2^62 is refused; the last term counts twice, and the others not at all; a product times itself and not
--- times the reading; an area of eight bytes is taken; the tolerances' length is not looked at; readings are raised by themselves; a high byte of
--- 128 is that of a positive number.
+-- Refused when tried: an area of eight bytes is taken; the tolerances' length is not looked at.
 pub estimate-one : OneLent estimate.Learnt (λ k e. now (e .1 .1 .1 .0))
 estimate-one k a r r' e e' h h' = outcome-one r r' (same h h')
 

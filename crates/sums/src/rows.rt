@@ -194,9 +194,9 @@ fn put_back(gr: &[u64], gc: &[i64], end: usize, patterns: &mut [u64], coefficien
     areas::copy_coefficients(coefficients, gc, gc.len());
 }
 
-// The same for other crates, by words: c times the pattern of the word times each term of t goes into the running sum of n terms in the first places of two areas. The
+// One row for other crates, by words: c times the pattern of the word times each term of t goes into the running sum of n terms in the first places of two areas. The
 // answer may be more than 128: what has cancelled stays, and counts. The places after the terms are cleared up to the last that a merge touches; all others stay.
-// Asks that the running sum and t are held, that the row's degree is at most 60, that the weights of both together are below 2^63, and that both areas have room for all terms of both.
+// Asks that the running sum and t are held and the word is valid, that the row's degree is at most 60, that the weights of both together are below 2^63, and that both areas have room for all terms of both.
 pub fn add_row(
     patterns: &mut [u64],
     coefficients: &mut [i64],
@@ -418,7 +418,7 @@ pub fn begin(sp: &[u64], sc: &[i64], ranks: &mut [u64], coefficients: &mut [i64]
 
 // Adds all pairs of two sums, by words, to a running sum of n terms. The places that it takes up meanwhile are cleared after the sum, and without a sum all of
 // them; all others stay. Two small sums are ranked in small arrays: to clear large ones would take longer than to add the pairs.
-// Asks that running sum and operands are held, degree and weight of the result are within the limits, and both areas have room for all pairs, or 256 places.
+// Asks that running sum and operands are held, degree and weight of the result are within the limits, and both areas have room for the running sum and all pairs, or 256 places.
 pub fn add_product(
     ranks: &mut [u64],
     coefficients: &mut [i64],
