@@ -19,7 +19,7 @@
 #include <string.h>
 #include <time.h>
 
-#include "limits.h"
+#include "rules.h"
 #include "plain.h"
 #include "reeveboom.h"
 

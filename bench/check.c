@@ -11,7 +11,7 @@
 #include <stdlib.h>
 #include <string.h>
 
-#include "limits.h"
+#include "rules.h"
 #include "plain.h"
 #include "reeveboom.h"
 

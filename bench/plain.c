@@ -13,7 +13,7 @@
 #include <string.h>
 
 #include "lanes.h"
-#include "limits.h"
+#include "rules.h"
 #include "reeveboom.h"
 
 enum { LAST_VARIABLE = VARIABLES - 1, KEY_BYTES = sizeof(uint64_t), SLOTS = 4096 };

@@ -18,7 +18,7 @@
 #include <sys/mman.h>
 #include <unistd.h>
 
-#include "limits.h"
+#include "rules.h"
 #include "reeveboom.h"
 
 /* ---- Counting checks. */

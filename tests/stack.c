@@ -15,7 +15,7 @@
 #include <string.h>
 #include <ucontext.h>
 
-#include "limits.h"
+#include "rules.h"
 #include "reeveboom.h"
 
 /* ---- The painted stack. */

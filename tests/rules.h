@@ -1,6 +1,6 @@
 /* The limits of the rules that include/reeveboom.h has no names for: the tests reach them, and the benchmark's programs keep them. */
-#ifndef LIMITS_H
-#define LIMITS_H
+#ifndef RULES_H
+#define RULES_H
 
 #include "reeveboom.h"
 
