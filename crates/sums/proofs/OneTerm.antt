@@ -60,7 +60,7 @@ module _ (u : Term) (t : Sum) (long : length (u .pattern) ≡ variables) (each :
 
 module _ (u : Term) (long : length (u .pattern) ≡ variables) (some : T (not (isZero (u .coefficient)))) where
   -- the power of one exponent more
-  raised : ℕ → Term
+  unfoldable pub raised : ℕ → Term
   raised zero = u
   raised (suc k) = timesTerm (raised k) u
 
@@ -82,12 +82,12 @@ module _ (u : Term) (long : length (u .pattern) ≡ variables) (some : T (not (i
   unfolding noZero
   own-full = and-i (not (isZero (u .coefficient))) (noZero []) some tt
 
-  power-term : (k : ℕ) → power variables (u ∷ []) (suc k) ≡ raised k ∷ []
+  pub power-term : (k : ℕ) → power variables (u ∷ []) (suc k) ≡ raised k ∷ []
   unfolding power row raised
   power-term zero = refl
   power-term (suc k) = ap (λ s. s ⊗ (u ∷ [])) (power-term k) ∙ term-product (raised k) (u ∷ []) (raised-long k) (long, tt) own-order (raised-some k) own-full
 
-  power-narrow : (k : ℕ) → powerSpread variables (u ∷ []) (suc k) ≤ 1
+  pub power-narrow : (k : ℕ) → powerSpread variables (u ∷ []) (suc k) ≤ 1
   unfolding powerSpread
   power-narrow zero = omega arith
   power-narrow (suc k) =

@@ -9,20 +9,10 @@ use lib.Seq.{take-all}
 use Rattle.algebra.specs.Pattern.{degree}
 use Rattle.algebra.specs.Sum.{Term, term, Sum, degreeOf, weight}
 use Rattle.algebra.specs.Word.{exponents, terms}
-use Rattle.algebra.proofs.Sums.Results.{append-weight}
+use Rattle.algebra.proofs.Sums.Results.{degree-next, weight-next}
 use Rattle.sums.specs.Held.{Held}
 use Rattle.sums.proofs.Multiplying.{weight-take}
 use Rattle.sums.proofs.Holding.{terms-many, terms-next}
-
--- ---- One term more, at the end.
-
-degree-next : (s : Sum) (t : Term) → degreeOf (s ++ (t ∷ [])) ≡ max (degreeOf s) (degree (t .pattern))
-unfolding degreeOf
-degree-next [] t = omega arith
-degree-next (u ∷ s) t = omega (arith, degree-next s t)
-
-weight-next : (s : Sum) (t : Term) → weight (s ++ (t ∷ [])) ≡ weight s + natAbs (t .coefficient)
-weight-next s t = append-weight s (t ∷ []) ∙ unfold weight in omega arith
 
 -- ---- The loop.
 

@@ -130,6 +130,15 @@ unfolding weight
 append-weight [] m = omega arith
 append-weight (t ∷ l) m = omega (arith, append-weight l m)
 
+-- one term more, at the end
+pub degree-next : (s : Sum) (t : Term) → degreeOf (s ++ (t ∷ [])) ≡ max (degreeOf s) (degree (t .pattern))
+unfolding degreeOf
+degree-next [] t = omega arith
+degree-next (u ∷ s) t = omega (arith, degree-next s t)
+
+pub weight-next : (s : Sum) (t : Term) → weight (s ++ (t ∷ [])) ≡ weight s + natAbs (t .coefficient)
+weight-next s t = append-weight s (t ∷ []) ∙ unfold weight in omega arith
+
 pub row-weight : (u : Term) (s : Sum) → weight (row u s) ≡ natAbs (u .coefficient) * weight s
 unfolding row weight
 row-weight u [] = omega arith
