@@ -48,6 +48,16 @@ decimal-next zero h = absurd (omega arith)
 decimal-next (suc n) h =
     digits-next n (suc n) h ∙ ap (λ (l : List ℕ). l ++ ((zeroDigit + suc n % 10) ∷ [])) (digits-enough n (suc n / 10) (suc n / 10) (omega arith) (omega arith))
 
+-- so many digits are enough. (`decimal` itself computes for small numbers only, since it allows for as many digits as the number says.)
+pub decimal-few : (k n : ℕ) → n < 10 ^ suc k → decimal n ≡ digitsOf k n
+decimal-few zero n small = decimal-last n (omega arith) ∙ sym (digits-last 0 n (omega arith))
+decimal-few (suc k) n small = go (decLt n 10) (decimal-few k (n / 10))
+  where
+    go : Dec (n < 10) → (n / 10 < 10 ^ suc k → decimal (n / 10) ≡ digitsOf k (n / 10)) → decimal n ≡ digitsOf (suc k) n
+    go (yes low) ih = decimal-last n low ∙ sym (digits-last (suc k) n low)
+    go (no high) ih =
+        decimal-next n (omega arith) ∙ ap (λ (l : List ℕ). l ++ ((zeroDigit + n % 10) ∷ [])) (ih (omega arith)) ∙ sym (digits-next k n (omega arith))
+
 -- ---- How many there are.
 
 digits-length : (more k n : ℕ) → n < 10 ^ suc k → length (digitsOf more n) ≤ suc k

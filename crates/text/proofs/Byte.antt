@@ -13,7 +13,7 @@ use borrow.Author.Tests.{le-leb, leb-true, leb-false, lt-leb}
 use Rattle.algebra.specs.Limits.{variables}
 use lib.Ieee.Fits.{and-l, and-r}
 use Rattle.text.specs.Signs.{zeroDigit, nineDigit, isDigit}
-use Rattle.text.specs.Letters.{Letter.names, Letter.nothing, letterOf}
+use Rattle.text.specs.Letters.{Letter.names, Letter.nothing, letterOf, nameOf}
 use Rattle.text.specs.Reader.{byteAt}
 
 -- by cases of a test
@@ -85,3 +85,8 @@ letter-above b v e = omega (arith, letter-is b v e .0)
 
 pub letter-variable : (b v : ℕ) → letterOf b ≡ names v → v < variables
 letter-variable b v e = let is = letter-is b v e in omega arith
+
+-- the byte that a variable is written as names it
+pub name-names : (v : ℕ) → v < variables → letterOf (nameOf v) ≡ names v
+unfolding letterOf nameOf
+name-names v h = let is : 97 + v - 97 ≡ v = omega arith in rw (le-leb 97 (97 + v) (omega arith), le-leb (97 + v) 104 (omega arith), is)

@@ -1,11 +1,14 @@
 -- Numbers: what is read is a number, and each number that no digit follows is what is read.
-use mathlib.Core.Path.{_≡_, refl, sym, _∙_, ap}
+use mathlib.Core.Path.{_≡_, refl, sym, _∙_, ap, subst}
 use mathlib.Core.Bool.{true, false}
 use mathlib.Core.List.{List, [], _∷_, append-nil}
-use Prim.Native.Nat.{ℕ, _+_, _-_, _*_, _≤_}
+use Prim.Native.Nat.{ℕ, zero, suc, _+_, _-_, _*_, _/_, _%_, _≤_, _<_}
 use native.Mathlib.Omega.{arith}
+use native.Mathlib.Decide.{decLt}
 use lib.ListN.{length, drop, getD}
 use lib.Seq.{drop-drop}
+use Rattle.numbers.specs.Decimal.{decimal}
+use Rattle.numbers.proofs.Decimals.{decimal-last, decimal-next}
 use Rattle.text.specs.Signs.{zeroDigit, isDigit}
 use Rattle.text.specs.Grammar.{Numeral, Numeral.digit, Numeral.longer}
 use Rattle.text.specs.Reader.{Digits, byteAt, takes, moreDigits, digitsAt}
@@ -71,3 +74,19 @@ module _ (top : ℕ) where
         let so-far = digits-so-far n a agree in
         let none = agree y (omega (arith, ap (λ (m : Digits). m .next) so-far, more-ahead top v y (drop y s))) in
         so-far ∙ more-stops top s v y (sym (only-digits top v (byteAt s y) (ap isDigit none ∙ e)))
+
+  -- ---- Decimal digits are a number.
+
+  -- (`most` bounds the number: it ends the recursion)
+  numeral-below : (most n : ℕ) → n ≤ most → n ≤ top → Numeral top (decimal n) n
+  numeral-below zero n h k = rw (decimal-last n (omega arith)) (digit {d = n} (omega arith))
+  numeral-below (suc most) n h k = go (decLt n 10) (λ high. numeral-below most (n / 10) (omega arith) (omega arith))
+    where
+      go : Dec (n < 10) → (10 ≤ n → Numeral top (decimal (n / 10)) (n / 10)) → Numeral top (decimal n) n
+      go (yes low) ih = rw (decimal-last n low) (digit {d = n} (omega arith))
+      go (no high) ih =
+          let is : n / 10 * 10 + n % 10 ≡ n = omega arith in
+          rw (decimal-next n (omega arith)) (subst (Numeral top _) is (longer {d = n % 10} (ih (omega arith)) (omega arith) (omega arith) (omega arith)))
+
+  pub decimal-numeral : (n : ℕ) → n ≤ top → Numeral top (decimal n) n
+  decimal-numeral n h = numeral-below n n (omega arith) h
