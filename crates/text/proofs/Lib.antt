@@ -20,7 +20,9 @@ pub mod Ahead
 pub mod Chains
 pub mod Only
 pub mod Formulas
+pub mod Kept
 pub mod Meaning
+pub mod TreePasses
 pub mod Fitting
 pub mod Typing
 pub mod Joining
