@@ -1,6 +1,6 @@
 -- Decimal digits: the last one after those of a tenth, and how many there are.
 use mathlib.Core.Path.{_≡_, refl, sym, _∙_, ap}
-use mathlib.Core.List.{List, [], _∷_, _++_}
+use mathlib.Core.List.{List, [], _∷_, _++_, append-assoc}
 use mathlib.Core.Bool.{true, false}
 use Prim.Native.Nat.{ℕ, zero, suc, _+_, _/_, _%_, _^_, _≤_, _<_}
 use native.Mathlib.Omega.{arith}
@@ -15,6 +15,7 @@ use mir.ValLaws.{toZ-ofZ}
 use Rattle.numbers.proofs.Signs.{held, at-pos, at-neg}
 use Rattle.numbers.specs.Decimal.{minusSign, zeroDigit}
 use Rattle.numbers.specs.Decimal.{digitsOf, decimal, signedDecimal}
+use Rattle.numbers.specs.Inside.Digits.{twoDigits, fourDigits}
 
 -- ---- One digit more.
 
@@ -47,6 +48,31 @@ unfolding decimal
 decimal-next zero h = absurd (omega arith)
 decimal-next (suc n) h =
     digits-next n (suc n) h ∙ ap (λ (l : List ℕ). l ++ ((zeroDigit + suc n % 10) ∷ [])) (digits-enough n (suc n / 10) (suc n / 10) (omega arith) (omega arith))
+
+-- ---- Two digits more, and four.
+
+pub decimal-two : (n : ℕ) → 10 ≤ n → n < 100 → decimal n ≡ twoDigits n
+decimal-two n h k = decimal-next n h ∙ ap (λ (l : List ℕ). l ++ ((zeroDigit + n % 10) ∷ [])) (decimal-last (n / 10) (omega arith))
+
+pub decimal-hundred : (n : ℕ) → 100 ≤ n → decimal n ≡ decimal (n / 100) ++ twoDigits (n % 100)
+decimal-hundred n h =
+    let rest : n / 10 / 10 ≡ n / 100 = omega arith in
+    let tens : n / 10 % 10 ≡ n % 100 / 10 = omega arith in
+    let ones : n % 10 ≡ n % 100 % 10 = omega arith in
+    decimal-next n (omega arith)
+    ∙ ap (λ (l : List ℕ). l ++ ((zeroDigit + n % 10) ∷ [])) (decimal-next (n / 10) (omega arith))
+    ∙ append-assoc (decimal (n / 10 / 10)) ((zeroDigit + n / 10 % 10) ∷ []) ((zeroDigit + n % 10) ∷ [])
+    ∙ rw (rest, tens, ones)
+
+pub decimal-myriad : (n : ℕ) → 10000 ≤ n → decimal n ≡ decimal (n / 10000) ++ fourDigits (n % 10000)
+decimal-myriad n h =
+    let rest : n / 100 / 100 ≡ n / 10000 = omega arith in
+    let high : n / 100 % 100 ≡ n % 10000 / 100 = omega arith in
+    let low : n % 100 ≡ n % 10000 % 100 = omega arith in
+    decimal-hundred n (omega arith)
+    ∙ ap (λ (l : List ℕ). l ++ twoDigits (n % 100)) (decimal-hundred (n / 100) (omega arith))
+    ∙ append-assoc (decimal (n / 100 / 100)) (twoDigits (n / 100 % 100)) (twoDigits (n % 100))
+    ∙ rw (rest, high, low)
 
 -- so many digits are enough. (`decimal` itself computes for small numbers only, since it allows for as many digits as the number says.)
 pub decimal-few : (k n : ℕ) → n < 10 ^ suc k → decimal n ≡ digitsOf k n

@@ -61,6 +61,7 @@ write-bytes-one k a r r' e e' h h' = (same (h .0) (h' .0), same (h .1) (h' .1))
 pub write-whole-one : OneLent write-whole.Learnt (λ k e. now (e .0))
 write-whole-one k a r r' e e' h h' = (refl, same h h')
 
+-- Refused when tried: four-digit numbers are taken for longer ones; the last four digits are those of the last three.
 pub write-decimal-one : OneLent write-decimal.Learnt (λ k e. now (e .0))
 write-decimal-one k a r r' e e' h h' = (same (h .0) (h' .0), same (h .1) (h' .1))
 

@@ -1,7 +1,7 @@
 -- What a loop keeps that writes bytes to an area, run after run: the bytes left, written from here on, complete what was to be written.
 use mathlib.Core.Path.{_≡_, refl, sym, _∙_, ap, subst}
 use mathlib.Core.List.{List, [], _∷_, _++_}
-use Prim.Native.Nat.{ℕ, suc, _+_, _≤_, _<_}
+use Prim.Native.Nat.{ℕ, zero, suc, _+_, _≤_, _<_}
 use native.Mathlib.Omega.{arith}
 use lib.ListN.{length, set, drop, length-append}
 use lib.Seq.{sets, length-sets, sets-eq}
@@ -78,3 +78,24 @@ completed {area} {all} w there now =
     let ends = finished w there now in
     let e : 0 + length all ≡ length all = omega arith in
     (ends .0 ∙ e, ends .1 ∙ sets-eq all area 0 (omega (arith, w .room, w .ends, w .same)) ∙ ap (λ (k : ℕ). all ++ drop k area) e)
+
+-- ---- The first byte of a run that is written is written over.
+
+module _ {A : Type 0} where
+  set-twice : (l : List A) (i : ℕ) (a b : A) → set (set l i a) i b ≡ set l i b
+  set-twice [] i a b = refl
+  set-twice (x ∷ l) zero a b = refl
+  set-twice (x ∷ l) (suc i) a b = ap (λ (r : List A). x ∷ r) (set-twice l i a b)
+
+  set-swap : (l : List A) (i j : ℕ) (a b : A) → i < j → set (set l j a) i b ≡ set (set l i b) j a
+  set-swap [] i j a b h = refl
+  set-swap (x ∷ l) i zero a b h = absurd (omega arith)
+  set-swap (x ∷ l) zero (suc j) a b h = refl
+  set-swap (x ∷ l) (suc i) (suc j) a b h = ap (λ (r : List A). x ∷ r) (set-swap l i j a b (omega arith))
+
+  sets-swap : (l : List A) (i j : ℕ) (a : A) (bs : List A) → i < j → set (sets l j bs) i a ≡ sets (set l i a) j bs
+  sets-swap l i j a [] h = refl
+  sets-swap l i j a (b ∷ bs) h = sets-swap (set l j b) i (suc j) a bs (omega arith) ∙ ap (λ (r : List A). sets r (suc j) bs) (set-swap l i j b a h)
+
+  pub over-first : (l : List A) (i : ℕ) (a b : A) (bs : List A) → set (sets l i (b ∷ bs)) i a ≡ sets l i (a ∷ bs)
+  over-first l i a b bs = sets-swap (set l i b) i (suc i) a bs (omega arith) ∙ ap (λ (r : List A). sets r (suc i) bs) (set-twice l i b a)

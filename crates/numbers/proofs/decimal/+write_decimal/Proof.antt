@@ -1,116 +1,155 @@
--- `write_decimal` meets its contract: the last digit is written after those of a tenth.
-use mathlib.Core.Path.{_≡_, sym, _∙_, ap}
-use mathlib.Core.List.{List, [], _∷_}
-use Prim.Native.Nat.{ℕ, _+_, _/_, _%_, _≤_, _<_}
+-- `write_decimal` meets its contract: one digit, two, or the last ones after those of the number without them.
+use mathlib.Core.Path.{refl}
+use mathlib.Core.List.{[], _∷_, _++_}
+use Prim.Native.Nat.{ℕ, _+_, _/_, _%_, _<_}
 use native.Mathlib.Omega.{arith}
 use borrow.Author.Needs.{needs}
-use borrow.Fn.Kinds.{In}
+use borrow.Fn.Kinds.{In, Out}
 use borrow.Fn.PlainCycle.{Measures, is, falls, and}
-use lib.ListN.{length, set, length-append}
-use lib.Seq.{sets}
-use Rattle.numbers.proofs.Writing.{sets-append}
-use Rattle.numbers.specs.Decimal.{zeroDigit}
-use Rattle.numbers.specs.Decimal.{decimal}
-use Rattle.numbers.proofs.Decimals.{decimal-last, decimal-next}
-use Rattle.numbers.proofs.decimal.write_decimal.Reads as write-decimal
-use Rattle.numbers.proofs.decimal.write_decimal.Kinds as write-decimal-kinds
-use Rattle.numbers.proofs.decimal.+write_decimal.Lts-write_decimal as write-decimal-lts
+use Rattle.numbers.specs.Decimal.{zeroDigit, decimal}
+use Rattle.numbers.specs.Inside.Digits.{twoDigits, fourDigits}
+use Rattle.numbers.proofs.Writing.{Writing, start, left-as, byte-room, has-room, next, finished}
+use Rattle.numbers.proofs.Decimals.{decimal-last, decimal-two, decimal-hundred, decimal-myriad}
+use Rattle.numbers.proofs.decimal.write_two.Reads as write-two
+use Rattle.numbers.proofs.decimal.write_four.Reads as write-four
+use Rattle.numbers.proofs.decimal.write_decimal.Reads as reads
+use Rattle.numbers.proofs.decimal.write_decimal.Kinds as kinds
+use Rattle.numbers.proofs.decimal.+write_decimal.Lts-write_decimal as lts
 use Rattle.numbers.proofs.decimal.+write_decimal.{statement}
 use Rattle.numbers.proofs.decimal.+write_decimal.Tie.{close}
 
--- ---- A number of one digit, and one of more.
-
-module _ (n : ℕ) (low : n < 10) where
-  one-long : length (decimal n) ≡ 1
-  one-long = ap (length {A = ℕ}) (decimal-last n low)
-
-  one-is : (area : List ℕ) (at : ℕ) → (at + 1 ≡ at + length (decimal n)) × (set area at (zeroDigit + n) ≡ sets area at (decimal n))
-  one-is area at = (omega (arith, one-long), ap (λ (l : List ℕ). sets area at l) (sym (decimal-last n low)))
-
-module _ (n : ℕ) (high : 10 ≤ n) where
-  more-long : length (decimal n) ≡ length (decimal (n / 10)) + 1
-  more-long = ap (length {A = ℕ}) (decimal-next n high) ∙ length-append (decimal (n / 10)) ((zeroDigit + n % 10) ∷ [])
-
-  more-is : {area' : List ℕ} {last : ℕ} (area : List ℕ) (at : ℕ) → last ≡ at + length (decimal (n / 10)) → area' ≡ sets area at (decimal (n / 10))
-      → (last + 1 ≡ at + length (decimal n)) × (set area' last (zeroDigit + n % 10) ≡ sets area at (decimal n))
-  more-is area at there now = (
-    omega (arith, more-long),
-    rw (now, there) (sets-append area at (decimal (n / 10)) ((zeroDigit + n % 10) ∷ []) ∙ ap (λ (l : List ℕ). sets area at l) (sym (decimal-next n high))),
-  )
-
 -- ---- The number falls.
 
-abbrev μ-write-decimal : Measures 1 write-decimal-kinds.ps ℕ
-μ-write-decimal κs a = a .1 .1 .0
+abbrev μ : Measures 1 kinds.ps ℕ
+μ κs a = a .1 .1 .0
 
-abbrev write-decimal-at : ℕ → In 1 write-decimal-kinds.ps
-write-decimal-at t =
-    and 1 write-decimal-kinds.ps (is 1 write-decimal-kinds.ps μ-write-decimal t) write-decimal.Pre
+abbrev at : ℕ → In 1 kinds.ps
+at t = and 1 kinds.ps (is 1 kinds.ps μ t) reads.Pre
 
-abbrev write-decimal-below : ℕ → In 1 write-decimal-kinds.ps
-write-decimal-below t =
-    and
-    1
-    write-decimal-kinds.ps
-    (falls 1 write-decimal-kinds.ps _<_ μ-write-decimal t)
-    write-decimal.Pre
+abbrev below : ℕ → In 1 kinds.ps
+below t = and 1 kinds.ps (falls 1 kinds.ps _<_ μ t) reads.Pre
 
-cast-area : (t : ℕ) → write-decimal-lts.Need-cast-area (write-decimal-below t, write-decimal.Post) (write-decimal-at t) write-decimal.Post
-cast-area t c = search needs
+module _ (t : ℕ) where
+  -- a place of the code, or what is needed there
+  abbrev Here : (lts.Claims → In 1 kinds.ps → Out 1 kinds.ps kinds.r → Type 0) → Type 0
+  Here place = place (write-two.Asked, write-two.Learnt, below t, reads.Post, write-four.Asked, write-four.Learnt) (at t) reads.Post
 
-add-area : (t : ℕ) → write-decimal-lts.Need-add-area (write-decimal-below t, write-decimal.Post) (write-decimal-at t) write-decimal.Post
-add-area t c = search needs
+  -- ---- One digit.
 
-slice-write-area : (t : ℕ) → write-decimal-lts.Need-slice-write-area (write-decimal-below t, write-decimal.Post) (write-decimal-at t) write-decimal.Post
-slice-write-area t c = let h = one-long _ (c .if1 .taken) in search needs
+  one : (d : Here lts.Then1) → let a = d .before .before .args in Writing (a .area .now) (a .at) (decimal (a .n)) (a .area .now) (a .at) ((zeroDigit + a .n) ∷ [])
+  one d = left-as (decimal-last _ (d .if1 .taken)) (start _ _ _ (d .before .before .pre .1))
 
-add-result : (t : ℕ) → write-decimal-lts.Need-add-result (write-decimal-below t, write-decimal.Post) (write-decimal-at t) write-decimal.Post
-add-result t c = search needs
+  cast-area : Here lts.Need-cast-area
+  cast-area c = search needs
 
-same-length : (t : ℕ) → write-decimal-lts.Need-same-length (write-decimal-below t, write-decimal.Post) (write-decimal-at t) write-decimal.Post
-same-length t c = search needs
+  add-area : Here lts.Need-add-area
+  add-area c = search needs
 
-returns : (t : ℕ) → write-decimal-lts.Need-returns (write-decimal-below t, write-decimal.Post) (write-decimal-at t) write-decimal.Post
-returns t c = one-is _ (c .if1 .taken) _ _
+  slice-write-area : Here lts.Need-slice-write-area
+  slice-write-area c = byte-room (one c) _ _ refl
 
--- what is known where a number of more digits is divided
-long : {t : ℕ} (d : write-decimal-lts.After-write-decimal-arg (write-decimal-below t, write-decimal.Post) (write-decimal-at t) write-decimal.Post)
-    → let n = d .before .before .before .args .n in length (decimal n) ≡ length (decimal (n / 10)) + 1
-long d = more-long _ (d .before .if1 .left)
+  add-result : Here lts.Need-add-result
+  add-result c = search needs
 
-write-decimal-requires : (t : ℕ) → write-decimal-lts.Need-write-decimal-requires (write-decimal-below t, write-decimal.Post) (write-decimal-at t) write-decimal.Post
-write-decimal-requires t c κs = let h = long c in search needs
+  same-length : Here lts.Need-same-length
+  same-length c = search needs
 
-cast-area-2 : (t : ℕ) → write-decimal-lts.Need-cast-area-2 (write-decimal-below t, write-decimal.Post) (write-decimal-at t) write-decimal.Post
-cast-area-2 t c = search needs
+  returns : Here lts.Need-returns
+  returns c = finished (one c) refl refl
 
-add-area-2 : (t : ℕ) → write-decimal-lts.Need-add-area-2 (write-decimal-below t, write-decimal.Post) (write-decimal-at t) write-decimal.Post
-add-area-2 t c = search needs
+  -- ---- Two digits.
 
-slice-write-area-2 : (t : ℕ) → write-decimal-lts.Need-slice-write-area-2 (write-decimal-below t, write-decimal.Post) (write-decimal-at t) write-decimal.Post
-slice-write-area-2 t c = let h = long (c .before .before .before) in search needs
+  two : (d : Here lts.Then2) → let a = d .before .before .before .args in Writing (a .area .now) (a .at) (decimal (a .n)) (a .area .now) (a .at) (twoDigits (a .n))
+  two d = left-as (decimal-two _ (d .before .if1 .left) (d .if2 .taken)) (start _ _ _ (d .before .before .before .pre .1))
 
-add-result-2 : (t : ℕ) → write-decimal-lts.Need-add-result-2 (write-decimal-below t, write-decimal.Post) (write-decimal-at t) write-decimal.Post
-add-result-2 t c = let h = long (c .before .before .before) in search needs
+  write-two-requires : Here lts.Need-write-two-requires
+  write-two-requires c κs = (c .before .if2 .taken, two (c .before) .room)
 
-same-length-2 : (t : ℕ) → write-decimal-lts.Need-same-length-2 (write-decimal-below t, write-decimal.Post) (write-decimal-at t) write-decimal.Post
-same-length-2 t c = search needs
+  same-length-2 : Here lts.Need-same-length-2
+  same-length-2 c = search needs
 
-returns-2 : (t : ℕ) → write-decimal-lts.Need-returns-2 (write-decimal-below t, write-decimal.Post) (write-decimal-at t) write-decimal.Post
-returns-2 t c = let d = c .before .before .before .before in more-is _ (d .if1 .left) _ _ (c .before .before .write-decimal .ensures .0) (c .before .before .write-decimal .ensures .1)
+  returns-2 : Here lts.Need-returns-2
+  returns-2 c = let put = c .before .before .write-two .ensures in finished (two (c .before .before .before .before)) (put .0) (put .1)
+
+  -- ---- Up to four digits.
+
+  hundred : (d : Here lts.Then3) → let a = d .before .before .before .before .args in
+      Writing (a .area .now) (a .at) (decimal (a .n)) (a .area .now) (a .at) (decimal (a .n / 100) ++ twoDigits (a .n % 100))
+  hundred d = left-as (decimal-hundred _ (d .before .if2 .left)) (start _ _ _ (d .before .before .before .before .pre .1))
+
+  write-decimal-requires : Here lts.Need-write-decimal-requires
+  write-decimal-requires c κs =
+      let e = c .before .before .before .before .before in
+      let many = c .before .before .if2 .left in
+      (omega (arith, many, e .pre .0), has-room (decimal (e .args .n / 100)) (twoDigits (e .args .n % 100)) refl (hundred (c .before)))
+
+  -- the last two are left to write
+  last-two : (d : Here lts.After-write-decimal) → let a = d .before .before .before .before .before .before .args in
+      Writing (a .area .now) (a .at) (decimal (a .n)) (d .write-decimal .last .0) (d .write-decimal .result) (twoDigits (a .n % 100))
+  last-two d =
+      let n = d .before .before .before .before .before .before .args .n in
+      let put = d .write-decimal .ensures in
+      next (decimal (n / 100)) (twoDigits (n % 100)) refl (hundred (d .before .before)) (put .1) (put .0)
+
+  write-two-requires-2 : Here lts.Need-write-two-requires-2
+  write-two-requires-2 c κs = (omega arith, last-two (c .before .before .before) .room)
+
+  same-length-3 : Here lts.Need-same-length-3
+  same-length-3 c = search needs
+
+  returns-3 : Here lts.Need-returns-3
+  returns-3 c = let put = c .before .before .write-two2 .ensures in finished (last-two (c .before .before .before .before .before .before)) (put .0) (put .1)
+
+  -- ---- More.
+
+  myriad : (d : Here lts.Else3) → let a = d .before .before .before .before .args in
+      Writing (a .area .now) (a .at) (decimal (a .n)) (a .area .now) (a .at) (decimal (a .n / 10000) ++ fourDigits (a .n % 10000))
+  myriad d = left-as (decimal-myriad _ (d .if3 .left)) (start _ _ _ (d .before .before .before .before .pre .1))
+
+  write-decimal-requires-2 : Here lts.Need-write-decimal-requires-2
+  write-decimal-requires-2 c κs =
+      let e = c .before .before .before .before .before in
+      let many = c .before .if3 .left in
+      (omega (arith, many, e .pre .0), has-room (decimal (e .args .n / 10000)) (fourDigits (e .args .n % 10000)) refl (myriad (c .before)))
+
+  -- the last four are left to write
+  last-four : (d : Here lts.After-write-decimal2) → let a = d .before .before .before .before .before .before .args in
+      Writing (a .area .now) (a .at) (decimal (a .n)) (d .write-decimal2 .last .0) (d .write-decimal2 .result) (fourDigits (a .n % 10000))
+  last-four d =
+      let n = d .before .before .before .before .before .before .args .n in
+      let put = d .write-decimal2 .ensures in
+      next (decimal (n / 10000)) (fourDigits (n % 10000)) refl (myriad (d .before .before)) (put .1) (put .0)
+
+  write-four-requires : Here lts.Need-write-four-requires
+  write-four-requires c κs = (omega arith, last-four (c .before .before .before) .room)
+
+  same-length-4 : Here lts.Need-same-length-4
+  same-length-4 c = search needs
+
+  returns-4 : Here lts.Need-returns-4
+  returns-4 c = let put = c .before .before .write-four .ensures in finished (last-four (c .before .before .before .before .before .before)) (put .0) (put .1)
 
 pub +write-decimal-spec : {M : Type 1} → statement M
-+write-decimal-spec = close μ-write-decimal λ t. write-decimal-lts.spec (write-decimal-below t, write-decimal.Post) (write-decimal-at t) write-decimal.Post
++write-decimal-spec =
+    close μ λ t.
+    lts.spec
+    (write-two.Asked, write-two.Learnt, below t, reads.Post, write-four.Asked, write-four.Learnt)
+    (at t)
+    reads.Post
     (cast-area t)
     (add-area t)
     (slice-write-area t)
     (add-result t)
     (same-length t)
     (returns t)
-    (write-decimal-requires t)
-    (cast-area-2 t)
-    (add-area-2 t)
-    (slice-write-area-2 t)
-    (add-result-2 t)
+    (write-two-requires t)
     (same-length-2 t)
     (returns-2 t)
+    (write-decimal-requires t)
+    (write-two-requires-2 t)
+    (same-length-3 t)
+    (returns-3 t)
+    (write-decimal-requires-2 t)
+    (write-four-requires t)
+    (same-length-4 t)
+    (returns-4 t)
