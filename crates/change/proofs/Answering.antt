@@ -32,7 +32,8 @@ use Rattle.numbers.proofs.Items.{Alike, Alike.both}
 use Rattle.change.proofs.TakeList.{pairs-stopped, pairs-read}
 use Rattle.change.proofs.Passing.{judge-applied}
 use Rattle.change.proofs.Meaning.{applied-accepted}
-use Rattle.change.proofs.Given.{First, first-few, first-is, first-held, SumGiven}
+use Rattle.sums.proofs.First.{First, first-few, first-is, first-held}
+use Rattle.change.proofs.Given.{SumGiven}
 
 -- ---- The list was read, and its n pairs are kept.
 

@@ -1,72 +1,39 @@
 -- A sum in the first places of two arrays: the one that an operation is given, the slope of one, which is formed in the same places, and a result that is written from there.
-use mathlib.Core.Path.{_≡_, sym, _∙_, ap, ap₂}
+use mathlib.Core.Path.{_≡_, sym, _∙_, ap}
 use mathlib.Core.List.{List}
 use Prim.Native.Nat.{ℕ, _+_, _≤_}
 use native.Mathlib.Omega.{arith}
 use lib.IntN.{ℤ}
-use lib.ListN.{length, take, length-map}
+use lib.ListN.{length}
 use lib.Seq.{sets}
-use Rattle.algebra.specs.Limits.{variables, mostTerms, largestWeight}
+use Rattle.algebra.specs.Limits.{variables, largestWeight}
 use Rattle.algebra.specs.Sum.{Sum, weight}
 use Rattle.algebra.specs.Accepted.{Accepted}
 use Rattle.algebra.specs.Slope as algebra
-use Rattle.algebra.specs.Word.{terms, EachValid}
 use Rattle.algebra.specs.Held.{wordsOf, coefficientsOf, firstTerms}
 use Rattle.answers.specs.Answers.{Told, Told.done, Outcome, outcome}
 use Rattle.answers.specs.Areas.{written}
 use Rattle.answers.specs.Judge.{Judged.good}
-use Rattle.answers.proofs.Writes.{written-front}
 use Rattle.packed.specs.Packed.{packed, mostBytes}
 use Rattle.packed.specs.Result.{packedInto}
 use Rattle.packed.proofs.Results.{Handed, Whole, result-room, result-written}
 use Rattle.packed.specs.Promised.{PackedSum}
-use Rattle.sums.specs.Held.{HeldSum}
-use Rattle.sums.proofs.Holding.{accepted-holdable, spells, each-valid, holds-sum}
+use Rattle.sums.proofs.First.{First, first-written, first-is}
 use Rattle.weights.specs.Capped.{capped}
 use Rattle.weights.proofs.Weighing.{capped-light}
 use Rattle.change.specs.Slope.{judgeSlope, slope}
 use Rattle.change.proofs.Sloped.{slope-accepted, after-sum, refuses-slope}
 use Rattle.change.specs.Promised.{SlopeRefuses.at-sum}
 
--- ---- An accepted sum stands in the first n places of two arrays.
+-- ---- A sum in the first n places of two arrays is written as a result.
 
-pub record First (s : Sum) (ws : List ℕ) (cs : List ℤ) (n : ℕ) : Type 0 where
-  pub words-are : take n ws ≡ wordsOf s
-  pub coefficients-are : take n cs ≡ coefficientsOf s
-  pub many : length s ≡ n
-  pub accepted : Accepted variables s
-  pub words-room : n ≤ length ws
-  pub coefficients-room : n ≤ length cs
+module _ {s : Sum} {ws : List ℕ} {cs : List ℤ} {n : ℕ} (f : First s ws cs n) (area : List ℕ) (room : mostBytes variables ≤ length area) where
+  pub first-room : 0 + length (packed (firstTerms n ws cs)) ≤ length area
+  first-room = result-room s n ws cs area (first-is f) (f .accepted) room
 
--- it was written there
-pub first-written : {s : Sum} (ws₀ : List ℕ) (cs₀ : List ℤ) {ws : List ℕ} {cs : List ℤ} {n : ℕ} → ws ≡ written (wordsOf s) ws₀ → cs ≡ written (coefficientsOf s) cs₀ → length s ≡ n
-    → Accepted variables s → First s ws cs n
-first-written {s} ws₀ cs₀ words coefficients many accepted =
-    let w = written-front (wordsOf s) ws₀ words (length-map s _ ∙ many) in
-    let c = written-front (coefficientsOf s) cs₀ coefficients (length-map s _ ∙ many) in
-    record { words-are = w .0; coefficients-are = c .0; many = many; accepted = accepted; words-room = w .1; coefficients-room = c .1 }
-
-module _ {s : Sum} {ws : List ℕ} {cs : List ℤ} {n : ℕ} (f : First s ws cs n) where
-  pub first-few : n ≤ mostTerms
-  first-few = omega (arith, f .many, f .accepted .few)
-
-  pub first-is : firstTerms n ws cs ≡ s
-  first-is = ap₂ terms (f .words-are) (f .coefficients-are) ∙ spells (accepted-holdable (f .accepted))
-
-  pub first-held : HeldSum (take n ws) (take n cs)
-  first-held = rw (f .words-are, f .coefficients-are) (holds-sum (f .accepted))
-
-  pub first-valid : EachValid (take n ws)
-  first-valid = each-valid (first-held .held)
-
-  -- it is written as a result
-  module _ (area : List ℕ) (room : mostBytes variables ≤ length area) where
-    pub first-room : 0 + length (packed (firstTerms n ws cs)) ≤ length area
-    first-room = result-room s n ws cs area first-is (f .accepted) room
-
-    pub first-result : {k : ℕ} {area' : List ℕ} → k ≡ 0 + length (packed (firstTerms n ws cs)) → area' ≡ sets area 0 (packed (firstTerms n ws cs))
-        → outcome (done k) area' ≡ packedInto (good s) area
-    first-result = result-written s n ws cs area first-is (f .accepted) room
+  pub first-result : {k : ℕ} {area' : List ℕ} → k ≡ 0 + length (packed (firstTerms n ws cs)) → area' ≡ sets area 0 (packed (firstTerms n ws cs))
+      → outcome (done k) area' ≡ packedInto (good s) area
+  first-result = result-written s n ws cs area (first-is f) (f .accepted) room
 
 -- ---- The sum that is given.
 

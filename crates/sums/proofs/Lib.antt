@@ -7,6 +7,7 @@ pub mod Forming
 pub mod Answering
 pub mod Single
 pub mod Fronts
+pub mod First
 pub mod Standing
 pub mod Merging
 pub mod Heads

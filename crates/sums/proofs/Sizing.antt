@@ -1,13 +1,13 @@
 -- What the loop of `size_of` keeps: degree and weight of the terms so far.
 use mathlib.Core.Path.{_≡_, refl, sym, _∙_, ap}
-use mathlib.Core.List.{List, [], _∷_, _++_}
+use mathlib.Core.List.{List}
 use Prim.Native.Nat.{ℕ, _+_, _^_, max, _≤_, _<_}
 use native.Mathlib.Omega.{arith}
 use lib.IntN.{ℤ, pos, natAbs}
 use lib.ListN.{length, getD, take}
 use lib.Seq.{take-all}
 use Rattle.algebra.specs.Pattern.{degree}
-use Rattle.algebra.specs.Sum.{Term, term, Sum, degreeOf, weight}
+use Rattle.algebra.specs.Sum.{Term, term, degreeOf, weight}
 use Rattle.algebra.specs.Word.{exponents, terms}
 use Rattle.algebra.proofs.Sums.Results.{degree-next, weight-next}
 use Rattle.sums.specs.Held.{Held}

@@ -8,7 +8,6 @@ use lib.IntN.{pos, negsuc}
 use lib.ListN.{length, getD}
 use lib.Seq.{getD-at}
 use Rattle.algebra.specs.Limits.{variables, largestDegree, mostTerms, largestWeight}
-use Rattle.algebra.specs.Sum.{Sum}
 use Rattle.algebra.specs.Arithmetic as arithmetic
 use Rattle.algebra.specs.Arithmetic.{_⊕_, _⊗_, sumSpread, productSpread, powerSpread}
 use Rattle.nodes.specs.Node.{Kind, Kind.integer, Kind.variable, Kind.sum, Kind.product, Kind.power, isNode}

@@ -8,7 +8,8 @@ use Rattle.packed.proofs.TakeSum.{count-few}
 use Rattle.packed.proofs.Results.{count-refused, rest-refused, rest-taken}
 use Rattle.change.proofs.Sloped.{refuses-slope}
 use Rattle.change.specs.Promised.{SlopeRefuses.no-room}
-use Rattle.change.proofs.Given.{SumGiven, given, first-held, slope-handed, slope-given}
+use Rattle.sums.proofs.First.{first-held}
+use Rattle.change.proofs.Given.{SumGiven, given, slope-handed, slope-given}
 use borrow.Author.Needs.{needs}
 use Rattle.change.proofs.slope.Statement.{statement}
 use Rattle.change.proofs.slope.Tie as tie

@@ -11,7 +11,8 @@ use Rattle.numbers.proofs.Items.{number-answered}
 use Rattle.packed.specs.Inside.Held.{readCount}
 use Rattle.packed.proofs.TakeSum.{count-few}
 use Rattle.packed.proofs.Results.{count-refused, rest-refused, rest-taken}
-use Rattle.change.proofs.Given.{first-valid, first-room, first-result, SumGiven, given}
+use Rattle.sums.proofs.First.{first-valid}
+use Rattle.change.proofs.Given.{first-room, first-result, SumGiven, given}
 use Rattle.change.proofs.Answering.{Kept-list, kept-list, bad-sum, bad-list, can-apply, bad-pair, Made, made}
 use borrow.Author.Needs.{needs}
 use Rattle.change.proofs.substitute_list.Statement.{statement}

@@ -11,7 +11,8 @@ use Rattle.sums.specs.Held.{HeldSum}
 use Rattle.weights.specs.Capped.{capped}
 use Rattle.weights.proofs.Weighing.{capped-heavy}
 use Rattle.change.proofs.Sloped.{judge-variable, judge-weight, judged-so, judged-good}
-use Rattle.change.proofs.Given.{First, first-few, first-valid, first-room, first-result, slope-light, slope-stands}
+use Rattle.sums.proofs.First.{First, first-few, first-valid}
+use Rattle.change.proofs.Given.{first-room, first-result, slope-light, slope-stands}
 use borrow.Author.Needs.{needs}
 use Rattle.change.proofs.write_slope.Statement.{statement}
 use Rattle.change.proofs.write_slope.Tie as tie
