@@ -50,7 +50,7 @@ typedef struct {
     int64_t work_coefficients[REEVEBOOM_WORK_PLACES];
     uint64_t patterns[REEVEBOOM_TERM_PLACES];
     int64_t coefficients[REEVEBOOM_TERM_PLACES];
-    uint8_t result[REEVEBOOM_RESULT_BYTES], answer[REEVEBOOM_ANSWER_BYTES];
+    uint8_t result[REEVEBOOM_RESULT_BYTES], answer[REEVEBOOM_ANSWER_BYTES], text[REEVEBOOM_TEXT_BYTES];
 } Areas;
 
 static Formula formulas[MOST_FORMULAS];
@@ -75,6 +75,7 @@ static void fail(const char *what, const char *which) {
 #define INTO_TERMS lent.patterns, REEVEBOOM_TERM_PLACES, lent.coefficients, REEVEBOOM_TERM_PLACES
 #define INTO_RESULT lent.result, REEVEBOOM_RESULT_BYTES
 #define INTO_ANSWER lent.answer, REEVEBOOM_ANSWER_BYTES
+#define INTO_TEXT lent.text, REEVEBOOM_TEXT_BYTES
 #define IN_WORK lent.work_patterns, REEVEBOOM_WORK_PLACES, lent.work_coefficients, REEVEBOOM_WORK_PLACES
 
 /* A typed formula as a packed sum. */
@@ -117,8 +118,10 @@ static void prepare_list(Formula *formula, uint64_t variable, const char *put) {
     ROW(C, substitute, "substitute", prepare_list, C##_substitute(SUM, LIST, INTO_RESULT, IN_WORK)) \
     ROW(C, estimate, "estimate", prepare_nothing, C##_estimate(SUM, READINGS, INTO_ANSWER))
 
-/* Those that another program (other.h) has to have too stand above, and those that it does not have would be further rows here. */
-#define ALL_OPERATIONS(ROW, C) FIRST_OPERATIONS(ROW, C)
+/* Those that another program (other.h) has to have too stand above, and those that it does not have are further rows here. */
+#define ALL_OPERATIONS(ROW, C) \
+    FIRST_OPERATIONS(ROW, C) \
+    ROW(C, write, "write", prepare_nothing, C##_write(SUM, INTO_TEXT))
 
 #define ROW_NAMES(C, operation, printed, prepare, call) { printed, prepare },
 

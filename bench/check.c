@@ -37,12 +37,12 @@ typedef struct {
     int64_t numbers[MOST_MADE];
     size_t bytes_length, list_length, readings_length, tolerances_length, table_length, words_length, numbers_length;
     uint64_t count, variable;
-    size_t result_length, patterns_length, coefficients_length; /* of the areas that are written to; a table and an answer count as results */
+    size_t result_length, patterns_length, coefficients_length; /* of the areas that are written to; a table, an answer and a text count as results */
 } Input;
 
 /* The areas that are written to. */
 typedef struct {
-    uint8_t result[REEVEBOOM_RESULT_BYTES + SPARE];
+    uint8_t result[REEVEBOOM_RESULT_BYTES + SPARE], text[REEVEBOOM_TEXT_BYTES + SPARE];
     uint64_t patterns[REEVEBOOM_WORK_PLACES + SPARE];
     int64_t coefficients[REEVEBOOM_WORK_PLACES + SPARE];
     int64_t table[REEVEBOOM_TABLE_PLACES + SPARE];
@@ -252,9 +252,17 @@ static uint64_t any_word(unsigned letters, unsigned degree) {
     return word;
 }
 
+/* A number at or beside a power of ten, where there is a digit more to write. */
+static uint64_t about_ten(void) {
+    uint64_t ten = 10;
+    for (unsigned times = below(18); times > 0; times--) ten *= 10;
+    return ten + below(3) - 1;
+}
+
 /* Makes an ordered sum of at most so many terms, in words and numbers. Now and then its weight or degree is at the limit, or above it. */
 static unsigned make_sum(unsigned most, unsigned degree, uint64_t *words, int64_t *numbers) {
     unsigned letters = 1 + below(VARIABLES), terms = 0, bits = once_in(3) ? below(62) : 1 + below(6);
+    bool tens = once_in(8);
     for (unsigned i = 0; i < most; i++) words[i] = any_word(letters, degree);
     qsort(words, most, sizeof *words, by_order);
     for (unsigned i = 0; i < most; i++) {
@@ -262,7 +270,7 @@ static unsigned make_sum(unsigned most, unsigned degree, uint64_t *words, int64_
     }
     uint64_t left = (UINT64_C(1) << 62) + (once_in(30) ? 1 : 0);
     for (unsigned i = 0; i < terms; i++) {
-        uint64_t size = 1 + (any() & ((UINT64_C(1) << bits) - 1));
+        uint64_t size = tens && once_in(2) ? about_ten() : 1 + (any() & ((UINT64_C(1) << bits) - 1));
         if (size > left || (i + 1 == terms && once_in(20))) size = left;
         left -= size;
         if (size == 0) return i;
@@ -398,6 +406,7 @@ static void make_measured(void) {
 
 #define INTO_TABLE a->table, in.result_length
 #define INTO_RESULT a->result, in.result_length
+#define INTO_TEXT a->text, in.result_length
 #define INTO_TERMS a->patterns, in.patterns_length, a->coefficients, in.coefficients_length
 #define IN_WORK INTO_TERMS
 
@@ -410,8 +419,10 @@ static void make_measured(void) {
     ROW(C, substitute, make_substitution, REEVEBOOM_RESULT_BYTES, REEVEBOOM_WORK_PLACES, C##_substitute(BYTES, LIST, INTO_RESULT, IN_WORK)) \
     ROW(C, estimate, make_measured, REEVEBOOM_ANSWER_BYTES, REEVEBOOM_WORK_PLACES, C##_estimate(BYTES, READINGS, INTO_RESULT))
 
-/* Those that another program (other.h) has to have too stand above, and those that it does not have would be further rows here. */
-#define ALL_OPERATIONS(ROW, C) FIRST_OPERATIONS(ROW, C)
+/* Those that another program (other.h) has to have too stand above, and those that it does not have are further rows here. */
+#define ALL_OPERATIONS(ROW, C) \
+    FIRST_OPERATIONS(ROW, C) \
+    ROW(C, write, make_any_packed, REEVEBOOM_TEXT_BYTES, REEVEBOOM_WORK_PLACES, C##_write(BYTES, INTO_TEXT))
 
 #define INPUTS(C, operation, make, result, others, call) { #operation, make, result, others },
 
@@ -459,11 +470,17 @@ static void make_case(int operation) {
     in.variable = once_in(20) ? any() >> below(64) : below(VARIABLES);
 }
 
+static void fill_word(uint8_t *at) {
+    uint64_t word = any();
+    memcpy(at, &word, sizeof word);
+}
+
 /* Fills the areas with rubbish, the same for all. Work areas are large, so most times only some places of them are filled. */
 static void fill_areas(void) {
     Areas *a = &areas[0];
     for (size_t i = 0; i < sizeof a->result; i++) a->result[i] = (uint8_t)any();
     for (size_t i = 0; i < sizeof a->table / sizeof *a->table; i++) a->table[i] = (int64_t)any();
+    for (size_t i = 0; i + sizeof(uint64_t) <= sizeof a->text; i += sizeof(uint64_t)) fill_word(a->text + i);
     size_t places = REEVEBOOM_WORK_PLACES + SPARE;
     if (once_in(16)) {
         for (size_t i = 0; i < places; i++) a->patterns[i] = any(), a->coefficients[i] = (int64_t)any();

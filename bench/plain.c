@@ -283,6 +283,94 @@ uint64_t quick_slope(const uint8_t *sum, size_t sum_length,
     return (uint64_t)(start - result) + (uint64_t)(out - packed);
 }
 
+/* ---- Sums as text. Each term is written as soon as it is read, eight bytes at once: what is too much of them comes to lie under what follows. */
+
+/* A factor for each exponent, its first byte lowest: *a, *a^2 up to *a^60. The highest byte is its length. */
+#define DIGIT(n) ((uint64_t)'0' + (n))
+#define DIGITS(e) ((e) < 10 ? DIGIT(e) : DIGIT((e) / 10) | DIGIT((e) % 10) << 8)
+#define FACTOR(e) ('*' | 'a' << 8 | ((e) < 2 ? 0 : '^' << 16 | DIGITS(e) << 24) | (uint64_t)((e) < 2 ? 2 : (e) < 10 ? 4 : 5) << 56)
+#define FIVE_FACTORS(e) FACTOR(e), FACTOR((e) + 1), FACTOR((e) + 2), FACTOR((e) + 3), FACTOR((e) + 4)
+#define TEN_FACTORS(e) FIVE_FACTORS(e), FIVE_FACTORS((e) + 5)
+
+static const uint64_t factors[MOST_DEGREE + 1] = {
+    TEN_FACTORS(0), TEN_FACTORS(10), TEN_FACTORS(20), TEN_FACTORS(30), TEN_FACTORS(40), TEN_FACTORS(50), FACTOR(60)
+};
+
+/* The digits of a number below 10^8, one to a byte, the first one lowest: it is parted into numbers of four digits, of two and of one, all at once. */
+INLINE uint64_t eight_digits(uint64_t number) {
+    uint64_t fours = number / 10000 | number % 10000 << 32;
+    uint64_t hundreds = (fours * 10486 >> 20) & UINT64_C(0x0000007f0000007f);
+    uint64_t twos = hundreds | (fours - 100 * hundreds) << 16;
+    uint64_t tens = (twos * 103 >> 10) & UINT64_C(0x000f000f000f000f);
+    return tens | (twos - 10 * tens) << 8;
+}
+
+/* Writes a number below 10^8 without zeros before it, and gives its end. */
+INLINE uint8_t *put_short(uint8_t *out, uint64_t number) {
+    if (number < 10) {
+        *out = (uint8_t)DIGIT(number);
+        return out + 1;
+    }
+    uint64_t digits = eight_digits(number);
+    unsigned zeros = (unsigned)__builtin_ctzll(digits) & 56;
+    store(out, (digits | '0' * EACH_BYTE) >> zeros);
+    return out + 8 - zeros / 8;
+}
+
+INLINE uint8_t *put_eight(uint8_t *out, uint64_t number) {
+    store(out, eight_digits(number) | '0' * EACH_BYTE);
+    return out + 8;
+}
+
+/* Writes a number up to 2^62, eight digits at once. */
+INLINE uint8_t *put_decimal(uint8_t *out, uint64_t number) {
+    const uint64_t part = 100000000;
+    if (number < part) return put_short(out, number);
+    if (number < part * part) return put_eight(put_short(out, number / part), number % part);
+    out = put_short(out, number / (part * part));
+    return put_eight(put_eight(out, number / part % part), number % part);
+}
+
+/* Writes a term with its sign, and gives its end. Where its coefficient is not written, the sign comes to stand over the first *. */
+INLINE uint8_t *spell_term(uint8_t *out, uint64_t code, uint64_t exponents) {
+    uint8_t *start = out;
+    uint64_t size = (code >> 1) + (code & 1);
+    if (size != 1 || exponents == 0) out = put_decimal(out + 1, size);
+    while (exponents != 0) {
+        unsigned shift = (unsigned)__builtin_ctzll(exponents) & 56;
+        uint64_t factor = factors[exponents >> shift & 255];
+        store(out, factor + ((uint64_t)shift << 5));
+        out += factor >> 56;
+        exponents &= ~(UINT64_C(255) << shift);
+    }
+    *start = code & 1 ? '-' : '+';
+    return out;
+}
+
+uint64_t quick_write(const uint8_t *sum, size_t sum_length,
+                     uint8_t *text, size_t text_length) {
+    uint8_t spelled[1 + REEVEBOOM_TEXT_BYTES], *out = spelled;
+    Reader r = { sum, sum_length, 0 };
+    Before before = { 0, UINT64_MAX };
+    uint64_t terms;
+    if (text_length < REEVEBOOM_TEXT_BYTES) return refuse(REEVEBOOM_ROOM, 0);
+    size_t fault = read_count(&r, MOST_TERMS, &terms);
+    if (fault != NO_FAULT) return refuse(REEVEBOOM_SUM, fault);
+    for (uint64_t i = 0; i < terms; i++) {
+        uint64_t code, exponents, key;
+        if (!take_term(&r, &before, &code, &exponents, &key)) return refuse(REEVEBOOM_SUM, term_fault(r, before));
+        out = spell_term(out, code, exponents);
+    }
+    if (r.place < sum_length) return refuse(REEVEBOOM_SUM, r.place);
+    if (terms == 0) {
+        text[0] = '0';
+        return 1;
+    }
+    const uint8_t *start = spelled + (spelled[0] == '+'); /* The first term has no plus. */
+    memcpy(text, start, (size_t)(out - start));
+    return (uint64_t)(out - start);
+}
+
 /* ---- The estimate. */
 
 /* A power of a reading, and of the raised reading without its sign. The first wraps round; where that matters the second is above the limit. */

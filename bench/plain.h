@@ -40,6 +40,9 @@ uint64_t quick_substitute(const uint8_t *sum, size_t sum_length,
                           uint64_t *patterns, size_t patterns_length,
                           int64_t *coefficients, size_t coefficients_length);
 
+uint64_t quick_write(const uint8_t *sum, size_t sum_length,
+                     uint8_t *text, size_t text_length);
+
 uint64_t quick_estimate(const uint8_t *sum, size_t sum_length,
                         const uint8_t *readings, size_t readings_length,
                         const uint8_t *tolerances, size_t tolerances_length,

@@ -21,10 +21,10 @@
 #include <stddef.h>
 #include <stdint.h>
 
-/* Version 4.1: three tools of this kind came before it. The first number goes up by 1 with an answer, a layout of bytes or a declaration that is no longer as it was, the second with what is added
+/* Version 4.2: three tools of this kind came before it. The first number goes up by 1 with an answer, a layout of bytes or a declaration that is no longer as it was, the second with what is added
  * beside them. As one number, for #if: 100 x the first + the second. */
 #define REEVEBOOM_VERSION_MAJOR 4
-#define REEVEBOOM_VERSION_MINOR 1
+#define REEVEBOOM_VERSION_MINOR 2
 #define REEVEBOOM_VERSION (100 * REEVEBOOM_VERSION_MAJOR + REEVEBOOM_VERSION_MINOR)
 
 /* The library takes lengths of 64 bits. Where size_t is shorter this does not compile; before C11 and C++11 that is an array of -1 places. */
@@ -52,7 +52,8 @@ enum {
     REEVEBOOM_WORK_PLACES = 8192,  /* patterns and coefficients, where they are work areas: 64 KiB each, so 128 KiB for both */
     REEVEBOOM_RESULT_BYTES = 2306, /* a packed result: 2.3 KiB */
     REEVEBOOM_READING_BYTES = 2 * REEVEBOOM_VARIABLES,
-    REEVEBOOM_ANSWER_BYTES = 16
+    REEVEBOOM_ANSWER_BYTES = 16,
+    REEVEBOOM_TEXT_BYTES = 8192    /* a text that is written: 8 KiB */
 };
 
 /* How many bytes of the stack a call takes at most, with its arguments and the way back. They are measured and not proved: on the compiled library, with inputs that
@@ -64,7 +65,8 @@ enum {
     REEVEBOOM_PACK_STACK = 512,
     REEVEBOOM_SLOPE_STACK = 4 * 1024,
     REEVEBOOM_SUBSTITUTE_STACK = 32 * 1024,
-    REEVEBOOM_ESTIMATE_STACK = 16 * 1024
+    REEVEBOOM_ESTIMATE_STACK = 16 * 1024,
+    REEVEBOOM_WRITE_STACK = 4 * 1024
 };
 
 /* The refusals. Each comes with a place, which is 0 where nothing else is said. */
@@ -87,7 +89,8 @@ enum {
 /* ---- What comes back.
  *
  * Done, a function returns the number that is said with it, which is below 2^16. Refused, the estimate returns refusal x 2^16 + place, which is below 2^20, and every
- * other function refusal x 2^32 + place. On refusal tables, patterns and coefficients that were to hold a sum, results and answers stay as they were.
+ * other function refusal x 2^32 + place. On refusal tables, patterns and coefficients that were to hold a sum, results, written texts and answers stay as they
+ * were.
  *
  * So one pair of functions takes the number of any of them apart.
  */
@@ -218,6 +221,18 @@ uint64_t reeveboom_substitute(const uint8_t *sum, size_t sum_length,
                               uint8_t *result, size_t result_length,
                               uint64_t *patterns, size_t patterns_length,
                               int64_t *coefficients, size_t coefficients_length);
+
+/* ---- Back to text. */
+
+/* Writes a packed sum as text, as a^2+2*a*b: terms in their order, zero as 0. Read by reeveboom_text and simplified, it becomes the same bytes again; but a text
+ * may be longer than the 1024 bytes, or need more than the 64 nodes, that reeveboom_text takes.
+ *
+ * text: 8192 bytes or more. Done, as many as the number says are written, and the rest stay. No zero byte ends them.
+ *
+ * Returns the number of bytes, 1 to 7424. Refusals: ROOM, SUM.
+ */
+uint64_t reeveboom_write(const uint8_t *sum, size_t sum_length,
+                         uint8_t *text, size_t text_length);
 
 /* ---- The estimate. */
 

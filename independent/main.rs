@@ -1,6 +1,6 @@
-//! A second, independent program for 01 of Reeveboom: answers the case lines of REPLAY.md, makes cases, and compares.
-//! It was written from the words of 01 and its source documents, of the open points that docs/DECISIONS.md lists, and of
-//! docs/REPLAY.md; no crate was looked at.
+//! A second, independent program for 01 of Reeveboom and request One of 02: answers the case lines of REPLAY.md, makes
+//! cases, and compares. It was written from the words of 01 and 02 and their source documents, of the open points that
+//! docs/DECISIONS.md lists, and of docs/REPLAY.md; no crate was looked at.
 
 // `linked` is only set by the command line of the library build.
 #![allow(unexpected_cfgs)]
@@ -18,6 +18,7 @@ mod operations;
 mod packed;
 mod refusals;
 mod selftest;
+mod spelling;
 mod stated;
 mod stored;
 mod sums;

@@ -192,7 +192,7 @@ static Bytes cut(Bytes b, size_t length) {
 
 /* ---- The operations. */
 
-enum { TEXT, SIMPLIFY, UNPACK, PACK, SLOPE, SUBSTITUTE, ESTIMATE, OPERATIONS };
+enum { TEXT, SIMPLIFY, UNPACK, PACK, SLOPE, SUBSTITUTE, WRITE, ESTIMATE, OPERATIONS };
 
 enum { MOST_INPUTS = 4, MOST_AREAS = 4 };
 
@@ -233,6 +233,7 @@ static uint64_t call_unpack(const Lent *in, const Lent *out) { return reeveboom_
 static uint64_t call_pack(const Lent *in, const Lent *out) { return reeveboom_pack(in[0].number, IN(1), IN(2), OUT(0)); }
 static uint64_t call_slope(const Lent *in, const Lent *out) { return reeveboom_slope(IN(0), in[1].number, OUT(0)); }
 static uint64_t call_substitute(const Lent *in, const Lent *out) { return reeveboom_substitute(IN(0), IN(1), OUT(0), OUT(1), OUT(2)); }
+static uint64_t call_write(const Lent *in, const Lent *out) { return reeveboom_write(IN(0), OUT(0)); }
 static uint64_t call_estimate(const Lent *in, const Lent *out) { return reeveboom_estimate(IN(0), IN(1), IN(2), OUT(0)); }
 
 #define PACKED { RESULT, REEVEBOOM_RESULT_BYTES, sizeof(uint8_t), 1 }
@@ -246,6 +247,7 @@ static const Operation operations[OPERATIONS] = {
     [PACK] = { "pack", call_pack, WIDE, { A_NUMBER, OF_WORDS, OF_WORDS }, { PACKED } },
     [SLOPE] = { "slope", call_slope, WIDE, { OF_BYTES, A_NUMBER }, { PACKED } },
     [SUBSTITUTE] = { "substitute", call_substitute, WIDE, { OF_BYTES, OF_BYTES }, { PACKED, WORKED, WORKED } },
+    [WRITE] = { "write", call_write, WIDE, { OF_BYTES }, { { RESULT, REEVEBOOM_TEXT_BYTES, sizeof(uint8_t), 1 } } },
     [ESTIMATE] = { "estimate", call_estimate, NARROW, { OF_BYTES, OF_BYTES, OF_BYTES }, { { RESULT, REEVEBOOM_ANSWER_BYTES, sizeof(uint8_t), 1 } } },
 };
 
@@ -475,6 +477,13 @@ static void add_heaviest(Bytes *b) {
     add(b, 1);
 }
 
+/* The code of a number below 0. */
+static void add_negative(Bytes *b, uint64_t size) {
+    uint64_t code = 2 * size - 1;
+    for (; code >= 128; code >>= 7) add(b, (unsigned)(code & 127u) + 128);
+    add(b, (unsigned)code);
+}
+
 static Bytes one_term(unsigned code, unsigned a_power, unsigned b_power) {
     Bytes b = BYTES(1);
     add_term(&b, code, a_power, b_power);
@@ -534,6 +543,23 @@ static Bytes longest(unsigned a_power) {
     return b;
 }
 
+/* What longest(1) is written as. */
+static Bytes text_of_longest(void) {
+    Bytes b = none();
+    for (unsigned degree = DOUBLED + 1; degree-- > 0;) {
+        for (unsigned letters = MOST_TERMS; letters-- > 0;) {
+            if (bits_of(letters) != degree) continue;
+            add_all(&b, typed(b.length == 0 ? "36028797018963968*a" : "+36028797018963968*a"));
+            for (int v = DOUBLED; v-- > 0;) {
+                if ((letters >> v & 1u) == 0) continue;
+                add(&b, '*');
+                add(&b, (unsigned)('a' + DOUBLED - v));
+            }
+        }
+    }
+    return b;
+}
+
 /* As many bytes as a result area has: the first coefficient is 2^62, and the second one is too much. */
 static Bytes too_heavy(void) {
     Bytes b = BYTES(128, 1);
@@ -542,6 +568,52 @@ static Bytes too_heavy(void) {
         add_times(&b, VARIABLES, 0);
     }
     return b;
+}
+
+/* A sum, and the text that it is written as. */
+typedef struct {
+    Bytes sum, text;
+    int terms;
+} Spelled;
+
+/* A further term, below 0, of powers that are all 2 or more. */
+static void spell_term(Spelled *s, int64_t size, const int *powers) {
+    char part[32];
+    add_negative(&s->sum, (uint64_t)size);
+    sprintf(part, "-%" PRId64, size);
+    add_all(&s->text, typed(part));
+    for (int v = 0; v < VARIABLES; v++) {
+        add(&s->sum, (unsigned)powers[v]);
+        sprintf(part, "*%c^%d", 'a' + v, powers[v]);
+        add_all(&s->text, typed(part));
+    }
+    s->terms++;
+}
+
+/* The longest text: as many terms as there may be, all with a minus. The letters of each take 37 bytes, which is the most that a degree of 60 allows: five powers of
+ * two digits, and three of one. The coefficients have 17 digits each, and 37 of them one more; a further digit would bring the weight above 2^62. */
+enum { WITH_A_DIGIT_MORE = 37, LONGEST_TEXT = MOST_TERMS * (1 + 17 + 37) + WITH_A_DIGIT_MORE };
+
+/* The terms that have the given powers before a variable, in order. The degree that is left goes to the powers from there on: all of it to the first, and then
+ * less and less. */
+static void spell_from(Spelled *s, int *powers, int variable, int left) {
+    const int least = variable < 5 ? 10 : 2;
+    if (variable == VARIABLES - 1) {
+        powers[variable] = least + left;
+        spell_term(s, s->terms < WITH_A_DIGIT_MORE ? INT64_C(100000000000000000) : INT64_C(10000000000000000), powers);
+        return;
+    }
+    for (int more = left; more >= 0 && s->terms < MOST_TERMS; more--) {
+        powers[variable] = least + more;
+        spell_from(s, powers, variable + 1, left - more);
+    }
+}
+
+static Spelled longest_text(void) {
+    int powers[VARIABLES];
+    Spelled s = { BYTES(128, 1), none(), 0 };
+    spell_from(&s, powers, 0, MOST_DEGREE - 5 * 10 - 3 * 2);
+    return s;
 }
 
 /* A list that puts one sum for one variable. */
@@ -591,6 +663,17 @@ static Bytes sum_of(const char *text) {
     sum = of(out[0].slice, is_refusal(length) ? 0 : (size_t)length);
     take_back(&operations[SIMPLIFY], in, out);
     return sum;
+}
+
+/* The text of a packed sum. */
+static Bytes text_of(Bytes sum) {
+    Bytes text;
+    Lent in[MOST_INPUTS], out[MOST_AREAS];
+    uint64_t length = called(&operations[WRITE], &sum, in, out);
+    check(!is_refusal(length), "it has a text");
+    text = of(out[0].slice, is_refusal(length) ? 0 : (size_t)length);
+    take_back(&operations[WRITE], in, out);
+    return text;
 }
 
 /* ---- The cases. */
@@ -848,6 +931,104 @@ static void lists(void) {
     substitute_refuses(a_squared, list, REEVEBOOM_SPREAD, 1);
 }
 
+static void write_gives(Bytes sum, const char *text) {
+    about = text;
+    gives(WRITE, FROM(sum), TO(typed(text)));
+}
+
+/* A text that is written as it is typed. */
+static void same_text(const char *text) { write_gives(sum_of(text), text); }
+
+/* Written, read and simplified, a sum has the same bytes. */
+static void reads_back(const char *formula) {
+    static Bytes text; /* what a case is about stays after it */
+    Bytes sum = sum_of(formula);
+    text = with(text_of(sum), '\0');
+    formula_gives((const char *)text.bytes, sum);
+}
+
+/* Numbers about the powers of ten, where they have a digit more. */
+static void digits(void) {
+    static char text[64];
+    for (int64_t ten = 10; ten <= MOST_WEIGHT / 10; ten *= 10) {
+        sprintf(text, "%" PRId64 "*a^2-%" PRId64 "*a+%" PRId64, ten - 1, ten, ten + 1);
+        same_text(text);
+        reads_back(text);
+    }
+}
+
+static void written_texts(void) {
+    Bytes all = BYTES(1), minus = BYTES(1), minus_a;
+
+    add_powers(&all, 2, "11111111");
+    add_negative(&minus, (uint64_t)MOST_WEIGHT);
+    minus_a = minus;
+    add_a_b(&minus, 0, 0);
+    add_a_b(&minus_a, 1, 0);
+
+    write_gives(square(), "a^2+2*a*b");
+    write_gives(BYTES(0), "0");
+    write_gives(one_term(2, 0, 0), "1");
+    write_gives(one_term(1, 0, 0), "-1");
+    write_gives(one_term(2, 1, 0), "a");
+    write_gives(one_term(1, 1, 0), "-a");
+    write_gives(one_term(3, 1, 0), "-2*a");
+    write_gives(two_terms(3, 1, 0, 2, 0, 1), "-2*a+b");
+    write_gives(two_terms(2, 2, 0, 3, 1, 0), "a^2-2*a");
+    write_gives(two_terms(1, 0, 1, 1, 0, 0), "-b-1");
+    write_gives(one_term(2, MOST_DEGREE, 0), "a^60");
+    write_gives(one_term(1, 0, MOST_DEGREE), "-b^60");
+    write_gives(heaviest(0), "4611686018427387904");
+    write_gives(heaviest(1), "4611686018427387904*a");
+    write_gives(minus, "-4611686018427387904");
+    write_gives(minus_a, "-4611686018427387904*a");
+    write_gives(all, "a*b*c*d*e*f*g*h");
+}
+
+/* More of them, whose sums come from texts; and what is read back. */
+static void texts_again(void) {
+    static const char *const same[] = {
+        "h", "-h^2", "c*h", "9*b^9", "10*b^10", "99*b^11*g^49", "a^2-2*a*b+b^2-1", "a*h^59-3*b*c^19*d^20*e^20+b^2-f*g-2*h+1",
+        "a^10*b^10*c^10*d^10*e^10*f^4*g^3*h^3", "-4611686018427387904*a^10*b^10*c^10*d^10*e^10*f^4*g^3*h^3", "4611686018427387903*a-1"
+    };
+    static const char *const others[] = {
+        "a-a", "(a+b)^2-b^2", "(a*b*c*d-e*f)^4+4*a*b*c*d*e*f*(e^2*f^2+a^2*b^2*c^2*d^2)", "(2*a-1)^6", "1-(a+b+c)^2-(d*e*f*g*h)^12"
+    };
+    Bytes many = text_of(sum_of("(a+b)^20")), too_long = text_of(sum_of("(2*a+3*b-5*c+7*d-11*e+13*f-17*g+19*h)^3"));
+
+    digits();
+    for (size_t i = 0; i < sizeof same / sizeof *same; i++) {
+        same_text(same[i]);
+        reads_back(same[i]);
+    }
+    for (size_t i = 0; i < sizeof others / sizeof *others; i++) reads_back(others[i]);
+
+    about = "texts that are written and not read: too many nodes, and too many bytes";
+    check(many.length <= MOST_TEXT && too_long.length > MOST_TEXT, "their lengths");
+    refuses(TEXT, FROM(many), REEVEBOOM_NODES, 0);
+    refuses(TEXT, FROM(too_long), REEVEBOOM_TEXT, MOST_TEXT);
+}
+
+static void write_refuses(Bytes sum, size_t place) { refuses(WRITE, FROM(sum), REEVEBOOM_SUM, place); }
+
+static void unwritten(void) {
+    about = "write: sums at fault";
+    write_refuses(none(), 0);
+    write_refuses(cut(square(), 1), 1);
+    write_refuses(cut(square(), 1 + TERM_BYTES), 1 + TERM_BYTES);
+    write_refuses(cut(square(), SQUARE_BYTES - 1), SQUARE_BYTES - 1);
+    write_refuses(with(square(), 0), SQUARE_BYTES);
+    write_refuses(BYTES(0, 0), 1);
+    write_refuses(BYTES(129, 1), 0);
+    write_refuses(BYTES(128, 0), 0);
+    write_refuses(one_term(0, 1, 0), 1);
+    write_refuses(one_term(2, MOST_DEGREE + 1, 0), 2);
+    write_refuses(one_term(2, MOST_DEGREE, 1), 3);
+    write_refuses(with(heaviest(0), 0), 1 + LONGEST_TERM_BYTES);
+    write_refuses(two_terms(2, 1, 0, 2, 1, 0), 1 + TERM_BYTES);
+    write_refuses(two_terms(2, 1, 0, 0, 0, 1), 1 + TERM_BYTES);
+}
+
 static int64_t power(int64_t base, int exponent) { return exponent == 0 ? 1 : base * power(base, exponent - 1); }
 
 static void estimate_gives(Bytes sum, Bytes readings, Bytes tolerances, int64_t estimate, int64_t margin) {
@@ -899,6 +1080,7 @@ static void one_after_another(void) {
     gives(SLOPE, FROM(sum, number(0)), TO(two_terms(4, 1, 0, 4, 0, 1)));
     substitute_gives(sum, BYTES(1, 1, 0), one_term(2, 2, 0));
     estimate_gives(sum, measured(10, 3), measured(1, 2), 160, 71);
+    write_gives(sum, "a^2+2*a*b");
 }
 
 /* The largest sum, in every operation. */
@@ -922,8 +1104,10 @@ static void largest_sums(void) {
     about = "one byte less, and one more";
     cut_off = cut(sum, LONGEST_BYTES - 1);
     refuses(UNPACK, FROM(cut_off), REEVEBOOM_SUM, LONGEST_BYTES - 1);
+    write_refuses(cut_off, LONGEST_BYTES - 1);
     estimate_refuses(cut_off, ones, ones, REEVEBOOM_SUM, LONGEST_BYTES - 1);
     refuses(UNPACK, FROM(with(sum, 0)), REEVEBOOM_SUM, LONGEST_BYTES);
+    write_refuses(with(sum, 0), LONGEST_BYTES);
     estimate_refuses(with(sum, 0), ones, ones, REEVEBOOM_SUM, LONGEST_BYTES);
 
     about = "as many bytes as a result area has";
@@ -931,12 +1115,28 @@ static void largest_sums(void) {
     refuses(UNPACK, FROM(heavy), REEVEBOOM_SUM, 2 + LONGEST_TERM_BYTES);
     refuses(SLOPE, FROM(heavy, number(0)), REEVEBOOM_SUM, 2 + LONGEST_TERM_BYTES);
     substitute_refuses(heavy, BYTES(0), REEVEBOOM_SUM, 2 + LONGEST_TERM_BYTES);
+    write_refuses(heavy, 2 + LONGEST_TERM_BYTES);
     estimate_refuses(heavy, ones, ones, REEVEBOOM_SUM, 2 + LONGEST_TERM_BYTES);
     for (int i = 0; i < MOST_TERMS; i++) {
         add_all(&patterns, WORDS(0));
         add_all(&coefficients, NUMBERS(MOST_WEIGHT));
     }
     pack_refuses(MOST_TERMS, patterns, coefficients, REEVEBOOM_SUM, 1);
+}
+
+/* The text of the longest sum, and the longest text. */
+static void largest_texts(void) {
+    Bytes text = text_of_longest();
+    Spelled most = longest_text();
+
+    about = "the text of the longest sum";
+    gives(WRITE, FROM(longest(1)), TO(text));
+    refuses(TEXT, FROM(text), REEVEBOOM_TEXT, MOST_TEXT);
+    about = "the longest text";
+    check(most.text.length == LONGEST_TEXT, "its length");
+    gives(WRITE, FROM(most.sum), TO(most.text));
+    write_refuses(cut(most.sum, most.sum.length - 1), most.sum.length - 1);
+    write_refuses(with(most.sum, 0), most.sum.length);
 }
 
 /* Slices that are only read may overlap: each of these cases is called that way too. */
@@ -986,7 +1186,7 @@ static void refusals(void) {
     refused(WIDE, REEVEBOOM_ROOM, 0);
     refused(WIDE, REEVEBOOM_TEXT, MOST_TEXT);
     refused(WIDE, REEVEBOOM_NODES, 4294967295u);
-    check(REEVEBOOM_VERSION == 401, "the version");
+    check(REEVEBOOM_VERSION == 402, "the version");
 }
 
 static void all(void) {
@@ -995,9 +1195,13 @@ static void all(void) {
     packed_sums();
     slopes();
     lists();
+    written_texts();
+    texts_again();
+    unwritten();
     estimates();
     one_after_another();
     largest_sums();
+    largest_texts();
     overlaps();
 }
 

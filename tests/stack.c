@@ -6,8 +6,8 @@
  * nothing takes there. So the arguments that are passed on the stack and the way back count, and so does what memcpy, memmove and memset take. A part of the last
  * frame that is not written to does not count: the limits have room for it.
  *
- * The inputs are meant to reach the deep paths: texts with as many brackets as there may be, products and powers of many terms, pairs with large powers, the longest sums, and refusals
- * of all kinds. What is seen is the most over all of them.
+ * The inputs are meant to reach the deep paths: texts with as many brackets as there may be, products and powers of many terms, pairs with large powers, the
+ * longest sums and numbers, and refusals of all kinds. What is seen is the most over all of them.
  */
 #define _XOPEN_SOURCE 600
 #include <stdio.h>
@@ -60,7 +60,7 @@ static int no_room;
 static uint64_t count, variable, number;
 static int64_t table[REEVEBOOM_TABLE_PLACES];
 static uint8_t sum[REEVEBOOM_RESULT_BYTES + 1], result[REEVEBOOM_RESULT_BYTES], readings[REEVEBOOM_READING_BYTES], tolerances[REEVEBOOM_READING_BYTES],
-               answer[REEVEBOOM_ANSWER_BYTES];
+               answer[REEVEBOOM_ANSWER_BYTES], written[REEVEBOOM_TEXT_BYTES];
 static uint64_t term_patterns[REEVEBOOM_TERM_PLACES], patterns[REEVEBOOM_WORK_PLACES];
 static int64_t term_coefficients[REEVEBOOM_TERM_PLACES], coefficients[REEVEBOOM_WORK_PLACES];
 
@@ -76,13 +76,14 @@ static void call_unpack(void) { number = reeveboom_unpack(sum, sum_length, INTO(
 static void call_pack(void) { number = reeveboom_pack(count, ALL_OF(term_patterns), ALL_OF(term_coefficients), INTO(result)); }
 static void call_slope(void) { number = reeveboom_slope(sum, sum_length, variable, INTO(result)); }
 static void call_substitute(void) { number = reeveboom_substitute(sum, sum_length, list, list_length, INTO(result), INTO_WORK); }
+static void call_write(void) { number = reeveboom_write(sum, sum_length, INTO(written)); }
 static void call_estimate(void) { number = reeveboom_estimate(sum, sum_length, ALL_OF(readings), ALL_OF(tolerances), INTO(answer)); }
 
 /* Sets of answers: 1 for done, and a bit for each refusal. */
 #define DONE 1u
 #define REFUSES(refusal) (1u << REEVEBOOM_##refusal)
 
-enum { TEXT, SIMPLIFY, UNPACK, PACK, SLOPE, SUBSTITUTE, ESTIMATE, FUNCTIONS };
+enum { TEXT, SIMPLIFY, UNPACK, PACK, SLOPE, SUBSTITUTE, WRITE, ESTIMATE, FUNCTIONS };
 
 /* What a function may take; which answers the inputs below have to reach, besides DONE and ROOM; the most that it has taken; and which answers were met. */
 static struct {
@@ -101,6 +102,7 @@ static struct {
     [SLOPE] = { "reeveboom_slope", call_slope, REEVEBOOM_SLOPE_STACK, REFUSES(SUM) | REFUSES(VARIABLE) | REFUSES(WEIGHT), 0, 0 },
     [SUBSTITUTE] = { "reeveboom_substitute", call_substitute, REEVEBOOM_SUBSTITUTE_STACK,
                      REFUSES(SUM) | REFUSES(LIST) | REFUSES(DEGREE) | REFUSES(WEIGHT) | REFUSES(SPREAD), 0, 0 },
+    [WRITE] = { "reeveboom_write", call_write, REEVEBOOM_WRITE_STACK, REFUSES(SUM), 0, 0 },
     [ESTIMATE] = { "reeveboom_estimate", call_estimate, REEVEBOOM_ESTIMATE_STACK, REFUSES(SUM) | REFUSES(READING) | REFUSES(RANGE), 0, 0 },
 };
 
@@ -196,6 +198,7 @@ static void with_sum(void) {
         list_length--;
         done(SUBSTITUTE);
     }
+    done(WRITE);
     estimates();
 }
 
@@ -230,7 +233,7 @@ static const char *const formulas[] = {
     "(a+b)^60", "(a+b)^60*a", "(2*a+1)^20", "(a+b+c)^14", "(a-1)^30*(a+1)^30", "(1+a+b)^7*(1+a-b)^7", "(1+a)^28*(1+b)*(1+a)^27",
     "(a+b)^4*(c+d)^4*(e+f)^3", "(1+a)^10*(1+b)^10",
     "(a+b+c+d+a^2+b^2+c^2+d^2+a^3+b^3+1)*(e+f+g+h+e^2+f^2+g^2+h^2+e^3+f^3+1)",
-    "a^2*b^2*c^2*d^2*e^2*f^2*g^2*h^2", "(1+a)^60*2",
+    "a^2*b^2*c^2*d^2*e^2*f^2*g^2*h^2", "(1+a)^60*2", "-4611686018427387904*a^10*b^10*c^10*d^10*e^10*f^4*g^3*h^3",
 };
 
 int main(void) {

@@ -11,6 +11,7 @@ pub mod random_tables;
 pub mod random_texts;
 pub mod readings;
 pub mod slopes;
+pub mod spellings;
 pub mod spreads;
 pub mod table_limits;
 pub mod table_spreads;

@@ -9,6 +9,7 @@ pub mod slope;
 pub mod substitute;
 pub mod text;
 pub mod unpack;
+pub mod write;
 
 use crate::areas::{Area, Lent, Places, Use};
 use crate::cases::chance::Chance;
@@ -28,6 +29,7 @@ pub static ALL: &[&Operation] = &[
     &slope::SLOPE,
     &substitute::SUBSTITUTE,
     &estimate::ESTIMATE,
+    &write::WRITE,
 ];
 
 /// Runs an operation on the inputs of a case and the areas lent to it.

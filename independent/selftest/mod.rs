@@ -1,5 +1,6 @@
 //! Checks of this program against second, differently written ways to the same answers.
 
+pub mod again;
 pub mod prefixes;
 pub mod reader;
 pub mod second;

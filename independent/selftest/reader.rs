@@ -43,7 +43,7 @@ fn after(first: &[u64], second: &[u64]) -> bool {
 }
 
 /// Coefficients and patterns, and the place after them.
-type Terms = Vec<(i128, Vec<u64>)>;
+pub type Terms = Vec<(i128, Vec<u64>)>;
 
 fn sum_at(bytes: &[u8], place: usize) -> Result<(Terms, usize), usize> {
     let (count, mut next) = number_at(bytes, place)?;
@@ -78,7 +78,7 @@ fn sum_at(bytes: &[u8], place: usize) -> Result<(Terms, usize), usize> {
     Ok((terms, next))
 }
 
-fn whole_sum(bytes: &[u8]) -> Result<Terms, usize> {
+pub fn whole_sum(bytes: &[u8]) -> Result<Terms, usize> {
     let (terms, next) = sum_at(bytes, 0)?;
     if next < bytes.len() {
         return Err(next);

@@ -31,7 +31,7 @@ fn row(powers: impl DoubleEndedIterator<Item = usize>, term: impl Fn(usize) -> S
 }
 
 /// Terms for i below `first` and j below `second`, by larger i + j, then by larger i: 01's order for a^i b^j.
-fn grid(first: usize, second: usize, term: impl Fn(usize, usize) -> String) -> String {
+pub fn grid(first: usize, second: usize, term: impl Fn(usize, usize) -> String) -> String {
     let mut terms = Vec::new();
     for degree in (0..first + second - 1).rev() {
         for i in (0..first.min(degree + 1)).rev() {

@@ -1,7 +1,7 @@
-//! Outcomes that 01 states, or docs/DECISIONS.md where 01 can be read in two ways, or a source document, as case lines
-//! with the answer they must get. The same lines begin each operation's part of the stored set. Packed sums come from
-//! typed texts by this program's own readers; the expected bytes come from the ordered sums as they are written in the
-//! papers (see `written`).
+//! Outcomes that 01 or 02 states, or docs/DECISIONS.md where they can be read in two ways, or a source document, as
+//! case lines with the answer they must get. The same lines begin each operation's part of the stored set. Packed sums
+//! come from typed texts by this program's own readers; the expected bytes come from the ordered sums as they are
+//! written in the papers (see `written`).
 
 mod bytes;
 mod faults;
@@ -10,13 +10,14 @@ mod long;
 mod room;
 mod scope;
 mod sources;
+mod spelled;
 mod texts;
 mod written;
 
 use crate::areas::Use;
 use crate::fields::{show_bytes, show_signed, show_words};
 use crate::lines::{answer, case_line, run_case, Case};
-use crate::operations::{estimate, own, pack, simplify, slope, substitute, text, unpack, Operation};
+use crate::operations::{estimate, own, pack, simplify, slope, substitute, text, unpack, write, Operation};
 use crate::packed::read_sum;
 use crate::table::NODE_NUMBERS;
 use crate::typed::{node_count, number_of, table_of};
@@ -39,6 +40,7 @@ pub fn all() -> Vec<Stated> {
     long::state(&mut statements);
     room::state(&mut statements);
     sources::state(&mut statements);
+    spelled::state(&mut statements);
     statements.list
 }
 
@@ -177,5 +179,10 @@ impl Statements {
     pub fn estimate(&mut self, why: &str, sum: &[u8], readings: &[i16], tolerances: &[i16], answer: (i64, i64)) {
         let bytes = [answer.0.to_le_bytes(), answer.1.to_le_bytes()].concat();
         self.done_bytes(why, &estimate::case(sum, readings, tolerances), &bytes);
+    }
+
+    /// A sum is written as this text.
+    pub fn spelled(&mut self, why: &str, sum: &[u8], text: &str) {
+        self.done_bytes(why, &write::case(sum), text.as_bytes());
     }
 }

@@ -7,6 +7,7 @@ use crate::lines::{run_case, Case, LONGEST_LINE, UNKNOWN};
 use crate::operations::{own, Operation, ALL};
 use crate::packed::{MOST_PACKED, UNPACK_ROOM};
 use crate::refusals::{LIST, READING, ROOM, SHAPE, SUM, TEXT, VARIABLE};
+use crate::spelling::SPELLING_ROOM;
 use crate::sums::{MOST_TERMS, VARIABLES};
 use crate::table::WORK_ROOM;
 use crate::text::{LONGEST_TEXT, TABLE_ROOM};
@@ -53,6 +54,7 @@ fn sized(line: &str) -> String {
             "WORK" => WORK_ROOM,
             "UNPACK" => UNPACK_ROOM,
             "ANSWER" => ANSWER_ROOM,
+            "SPELLING" => SPELLING_ROOM,
             "TERMS" => MOST_TERMS,
             "VARIABLES" => VARIABLES,
             "BYTES" => LONGEST_BYTE_AREA,
@@ -80,6 +82,7 @@ fn before_others(all: &mut Statements) {
         ("substitute - - RESULT-1 WORK WORK", "stay stay stay"),
         ("substitute - - RESULT WORK 0", "stay stay stay"),
         ("estimate - - - ANSWER-1", "stay"),
+        ("write - SPELLING-1", "stay"),
     ] {
         all.line(why, &sized(line), &format!("refused {ROOM} 0 {fates}"));
     }
@@ -111,7 +114,8 @@ fn unknown(all: &mut Statements) {
         "slope 00 18446744073709551616 RESULT", "slope 00 a RESULT", "slope 00 01 RESULT", "slope 00 0",
         "substitute 00 00 RESULT WORK", "substitute 00 RESULT WORK WORK", "substitute 00 0 RESULT WORK WORK",
         "estimate 00 - - BYTES+1", "estimate 00 - -", "estimate 00 - - 016", "terms 61", "unknown", "done 0 - stay",
-        "divide 00 00 RESULT",
+        "divide 00 00 RESULT", "write 00", "write SPELLING", "write 00 SPELLING 1", "write  SPELLING",
+        "write 0 SPELLING", "write 00 08192", "write 00 BYTES+1",
     ];
     for line in lines {
         all.line(why, &sized(line), UNKNOWN);

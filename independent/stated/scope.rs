@@ -72,7 +72,7 @@ fn run_only(all: &mut Statements) {
 }
 
 /// All products of three letters in 01's order, with how often each comes up: 1, 3 or 6.
-fn cube_of_letters() -> String {
+pub fn cube_of_letters() -> String {
     let letters = b"abcdefgh";
     let mut terms = Vec::new();
     for first in 0..letters.len() {

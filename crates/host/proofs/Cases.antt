@@ -25,6 +25,7 @@ use Rattle.answers.specs.Promised.{Each}
 use Rattle.numbers.specs.Item as item
 use Rattle.numbers.specs.Number.{groupsOf, numberBytes, readByte, readGroups, readNumber}
 use Rattle.numbers.specs.Code.{code, decode}
+use Rattle.numbers.specs.Decimal.{digitsOf, decimal}
 use Rattle.packed.specs.Packed.{exponentBytes, termBytes, bytesOfTerms, packed, mostBytes}
 use Rattle.packed.proofs.CaseBytes.{square}
 use Rattle.packed.specs.Judge.{weighs, follows}
@@ -38,10 +39,12 @@ use Rattle.formula.specs.Table.{judgeNode, judgeNodes, isShape, judgeTable}
 use Rattle.formula.specs.Simplify.{tableSum, simplify}
 use Rattle.text.specs.Limits.{tablePlaces}
 use Rattle.text.specs.Signs.{isDigit}
-use Rattle.text.specs.Letters.{letterOf}
+use Rattle.text.specs.Letters.{letterOf, nameOf}
 use Rattle.text.specs.Tree.{nodeCount, nodesOf}
 use Rattle.text.specs.Reader as reader
 use Rattle.text.specs.Text.{judgeText, tableInto, readFormula}
+use Rattle.spelling.specs.Spelling as spelling
+use Rattle.spelling.specs.WriteText.{textPlaces, textInto, writeText}
 use Rattle.change.specs.Slope.{judgeSlope, slope}
 use Rattle.change.specs.Pairs.{readPairs, readList}
 use Rattle.change.specs.Substitute.{judgePair, judgePairs, judgeSubstitute, substitute}
@@ -61,6 +64,8 @@ pub data Case : Type 0 where
   slopes : List ℕ → ℕ → ℕ → Told → Case
   -- packed bytes, and a list
   puts : List ℕ → List ℕ → ℕ → Told → Case
+  -- packed bytes, and the places of the text area
+  writes : List ℕ → ℕ → ℕ → Told → Case
 
 abbrev pub Gets : {Areas : Type 0} → Outcome Areas → ℕ → Told → Type 0
 Gets o number t = (hosted wideUnit o .0 ≡ number) × (heard number ≡ t)
@@ -78,6 +83,7 @@ Says (unpacks bytes number t) = Gets (unpack bytes (words mostTerms) (coefficien
 Says (packs count ws cs number t) = Gets (pack count ws cs (words (mostBytes variables))) number t
 Says (slopes bytes v number t) = Gets (slope bytes v (words (mostBytes variables))) number t
 Says (puts bytes list number t) = Gets (substitute bytes list (words workPlaces) (coefficients workPlaces) (words (mostBytes variables))) number t
+Says (writes bytes places number t) = Gets (writeText bytes (words places)) number t
 
 -- ---- Short names.
 
@@ -112,15 +118,20 @@ table =
     ∷ puts square (1 ∷ 1 ∷ 0 ∷ []) oneTerm (done oneTerm)
     ∷ puts square (1 ∷ variables ∷ []) (9 * 2 ^ 32 + 1) (refused VARIABLE 1)
     ∷ puts square (1 ∷ 1 ∷ 0 ∷ 5 ∷ []) (8 * 2 ^ 32 + 3) (refused LIST 3)
+    -- a^2+2*a*b has nine bytes; the sum without its last byte; a place too few
+    ∷ writes square textPlaces 9 (done 9)
+    ∷ writes (take lessOne square) textPlaces (7 * 2 ^ 32 + lessOne) (refused SUM lessOne)
+    ∷ writes square 8191 (2 ^ 32) (refused ROOM 0)
     ∷ []
 
 pub cases-hold : Each Says table
-unfolding table quoted times degree same thenBy byPowers order degreeOf weight wordOf fieldsOf termsBy word exponents terms isValid settle insert gather keep dropZeros collect occurs countNew spread row pairs _⊕_ sumSpread _⊗_ productSpread arithmetic.variable arithmetic.power powerSpread algebra-slope.slope rows pairRows algebra-substitute.substitute pairDegree pairWeight largestPower pairSpread holding andThen item.andThen item.provided item.mapped groupsOf numberBytes readByte readGroups readNumber code decode exponentBytes termBytes bytesOfTerms packed weighs follows readCoefficient readExponents readTerm readTerms readSum readWhole heldInto packedInto unpack isGood goodTerms pack tableOf isIn isKind readNode formalDegree formalWeight nodeSpread nodeSum judgeNode judgeNodes isShape judgeTable tableSum simplify isDigit letterOf nodeCount nodesOf reader.takes reader.moreDigits reader.digitsAt reader.readAtom reader.readExponent reader.readFactor reader.readMore reader.isTimes reader.readTerm reader.isSign reader.signed reader.afterMinus reader.readSum reader.inBrackets reader.readWhole judgeText tableInto readFormula judgeSlope slope item.renamed readPairs readList judgePair judgePairs judgeSubstitute substitute
+unfolding table quoted times degree same thenBy byPowers order degreeOf weight wordOf fieldsOf termsBy word exponents terms isValid settle insert gather keep dropZeros collect occurs countNew spread row pairs _⊕_ sumSpread _⊗_ productSpread arithmetic.variable arithmetic.power powerSpread algebra-slope.slope rows pairRows algebra-substitute.substitute pairDegree pairWeight largestPower pairSpread holding andThen item.andThen item.provided item.mapped groupsOf numberBytes readByte readGroups readNumber code decode exponentBytes termBytes bytesOfTerms packed weighs follows readCoefficient readExponents readTerm readTerms readSum readWhole heldInto packedInto unpack isGood goodTerms pack tableOf isIn isKind readNode formalDegree formalWeight nodeSpread nodeSum judgeNode judgeNodes isShape judgeTable tableSum simplify isDigit letterOf nodeCount nodesOf reader.takes reader.moreDigits reader.digitsAt reader.readAtom reader.readExponent reader.readFactor reader.readMore reader.isTimes reader.readTerm reader.isSign reader.signed reader.afterMinus reader.readSum reader.inBrackets reader.readWhole judgeText tableInto readFormula judgeSlope slope item.renamed readPairs readList judgePair judgePairs judgeSubstitute substitute nameOf digitsOf decimal spelling.powers spelling.letterText spelling.morePowers spelling.factorsText spelling.termText spelling.firstSign spelling.nextSign spelling.firstText spelling.nextText spelling.moreTerms spelling.sumText textInto writeText
 cases-hold =
     (refl, refl) also (refl, refl) also (refl, refl)
     also (refl, refl) also (refl, refl) also (refl, refl)
     also (refl, refl) also (refl, refl) also (refl, refl)
     also (refl, refl) also (refl, refl) also (refl, refl)
     also (refl, refl) also (refl, refl)
+    also (refl, refl) also (refl, refl) also (refl, refl)
     also (refl, refl) also (refl, refl) also (refl, refl)
     also tt

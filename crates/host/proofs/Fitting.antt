@@ -50,6 +50,10 @@ use Rattle.change.proofs.ListPlaces.{list-small}
 use Rattle.change.specs.Promised.{SlopeRefuses, SubstituteRefuses}
 use Rattle.change.proofs.Sloped as sloping
 use Rattle.change.proofs.Substituting as substituting
+use Rattle.spelling.specs.WriteText.{writeText}
+use Rattle.spelling.specs.Promised.{WriteTextRefuses}
+use Rattle.spelling.proofs.Widths.{text-fits}
+use Rattle.spelling.proofs.Written as writing
 use Rattle.answers.proofs.Hosting.{between, within, within-check}
 use Rattle.answers.specs.Promised.{Numbered, Placed, Hearable}
 
@@ -130,6 +134,16 @@ module _ (bytes : List ℕ) (byte : (i : ℕ) → getD bytes i 0 < 256) where
       within (slope bytes v area)
       (λ n a e. let s = sloping.slope-means bytes byte v area e in result-below (s .result-accepted) (s .many))
       (λ r p a e. slope-refusal (sloping.slope-refuses bytes byte v area e))
+
+  write-refusal : {refusal place : ℕ} {area area' : List ℕ} → WriteTextRefuses bytes area refusal place area' → Placed wideUnit refusal place
+  write-refusal (WriteTextRefuses.no-room short) = at-zero (between (omega arith) (omega arith))
+  write-refusal (WriteTextRefuses.at-sum room a) = sum-refusal a
+
+  pub write-within : (area : List ℕ) → Hearable wideUnit (writeText bytes area .answer)
+  write-within area =
+      within (writeText bytes area)
+      (λ n a e. let w = writing.write-text-means bytes byte area e in omega (arith, w .many, text-fits variables (omega arith) (w .sum) (w .of-bytes .accepted)))
+      (λ r p a e. write-refusal (writing.write-text-refuses bytes byte area e))
 
 module _ (count : ℕ) (ws : List ℕ) (cs : List ℤ) (area : List ℕ) where
   abbrev good : ℕ

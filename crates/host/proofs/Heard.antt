@@ -14,9 +14,10 @@ use Rattle.formula.specs.Simplify.{simplify}
 use Rattle.text.specs.Text.{readFormula}
 use Rattle.change.specs.Slope.{slope}
 use Rattle.change.specs.Substitute.{substitute}
+use Rattle.spelling.specs.WriteText.{writeText}
 use Rattle.answers.proofs.Hosting.{wide-heard, outcome-heard}
 use Rattle.answers.specs.Promised.{Hearable}
-use Rattle.host.proofs.Fitting.{text-within, simplify-within, unpack-within, pack-within, slope-within, substitute-within}
+use Rattle.host.proofs.Fitting.{text-within, simplify-within, unpack-within, pack-within, slope-within, substitute-within, write-within}
 
 wide : {Areas : Type 0} (o : Outcome Areas) → Hearable wideUnit (o .answer) → {number : ℕ} {a : Areas} → (number, a) ≡ hosted wideUnit o → o ≡ outcome (heard number) a
 wide o w e = outcome-heard wideUnit o (wide-heard (o .answer) w) e
@@ -39,6 +40,9 @@ module _ {number : ℕ} where
 
     pub slope-heard : (v : ℕ) (area : List ℕ) {area' : List ℕ} → (number, area') ≡ hosted wideUnit (slope bytes v area) → slope bytes v area ≡ outcome (heard number) area'
     slope-heard v area e = wide (slope bytes v area) (slope-within bytes byte v area) e
+
+    pub write-heard : (area : List ℕ) {area' : List ℕ} → (number, area') ≡ hosted wideUnit (writeText bytes area) → writeText bytes area ≡ outcome (heard number) area'
+    write-heard area e = wide (writeText bytes area) (write-within bytes byte area) e
 
     pub substitute-heard : (list ws : List ℕ) (cs : List ℤ) (area : List ℕ) → ((i : ℕ) → getD list i 0 < 256) → {areas : WorkAreas}
         → (number, areas) ≡ hosted wideUnit (substitute bytes list ws cs area) → substitute bytes list ws cs area ≡ outcome (heard number) areas

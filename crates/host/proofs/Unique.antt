@@ -14,6 +14,7 @@ use Rattle.host.proofs.reeveboom_pack.Reads as pack
 use Rattle.host.proofs.reeveboom_slope.Reads as slope
 use Rattle.host.proofs.reeveboom_substitute.Reads as substitute
 use Rattle.host.proofs.reeveboom_estimate.Reads as estimate
+use Rattle.host.proofs.reeveboom_write.Reads as write
 
 -- two numbers with their areas are the same
 number-one : {A : Type 0} {n n' : ℕ} {x x' : A} → _≡_ {A = ℕ × A} (n, x) (n', x') → (n ≡ n') × (x ≡ x')
@@ -47,3 +48,7 @@ reeveboom-substitute-one k a r r' e e' h h' = number-one (same h h')
 -- Refused when tried: a refusal counts 2^32.
 pub reeveboom-estimate-one : OneLent estimate.Learnt (λ k e. now (e .1 .1 .1 .0))
 reeveboom-estimate-one k a r r' e e' h h' = number-one (same h h')
+
+-- Refused when tried: a refusal counts 65,536; no byte of the sum is read.
+pub reeveboom-write-one : OneLent write.Learnt (λ k e. now (e .1 .0))
+reeveboom-write-one k a r r' e e' h h' = number-one (same h h')

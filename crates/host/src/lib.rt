@@ -9,6 +9,7 @@ ghost use Rattle.packed.specs.Pack.{pack};
 ghost use Rattle.change.specs.Slope.{slope};
 ghost use Rattle.change.specs.Substitute.{substitute};
 ghost use Rattle.router.specs.Estimate as router;
+ghost use Rattle.spelling.specs.WriteText.{writeText};
 
 // What 1 of a refusal's number counts: above every place, and every number that an operation returns.
 const HOST_UNIT: u64 = 4294967296;
@@ -95,4 +96,11 @@ pub extern "C" fn reeveboom_estimate(
         ≡ hosted narrowUnit (router.estimate (now (sum .entry)) (now (readings .entry)) (now (tolerances .entry)) (now (answer .entry))) ⌝ }
 {
     router::estimate(sum, readings, tolerances, answer).for_host(ESTIMATE_UNIT)
+}
+
+#[no_mangle]
+pub extern "C" fn reeveboom_write(sum: &[u8], text: &mut [u8]) -> u64
+    ensures { λ r. ⌜ (r, now (text .exit)) ≡ hosted wideUnit (writeText (now (sum .entry)) (now (text .entry))) ⌝ }
+{
+    spelling::write_text(sum, text).for_host(HOST_UNIT)
 }

@@ -4,4 +4,5 @@ pub mod Spellings
 pub mod Margins
 pub mod Worked
 pub mod FromTexts
+pub mod Mailed
 pub mod Cases

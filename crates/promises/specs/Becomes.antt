@@ -17,6 +17,7 @@ use Rattle.formula.specs.Simplify.{simplify}
 use Rattle.text.specs.Tree.{Tree, treeValue}
 use Rattle.text.specs.Grammar.{Formula}
 use Rattle.text.specs.Text.{readFormula}
+use Rattle.spelling.specs.WriteText.{writeText}
 
 -- simplifying the table is done, in some areas, and leaves these bytes in the result area
 pub record Simplifies (table : List ℤ) (bytes : List ℕ) : Type 0 where
@@ -35,6 +36,14 @@ pub record ReadsAs (text : List ℕ) (table : List ℤ) : Type 0 where
   pub area' : List ℤ
   pub is-done : readFormula text area ≡ outcome (done count) area'
   pub table-is : take (3 * count) area' ≡ table
+
+-- writing the packed sum is done, in some text area, and leaves this text there
+pub record WritesAs (bytes text : List ℕ) : Type 0 where
+  pub area : List ℕ
+  pub count : ℕ
+  pub area' : List ℕ
+  pub is-done : writeText bytes area ≡ outcome (done count) area'
+  pub text-is : take count area' ≡ text
 
 -- an accepted sum, a table of nodes, or a typed text becomes these bytes; each has its value
 pub data Becomes (bytes : List ℕ) : (List ℤ → ℤ) → Type 0 where

@@ -37,6 +37,8 @@ use Rattle.text.specs.Tree.{Tree, nodesOf}
 use Rattle.text.specs.Limits.{tablePlaces}
 use Rattle.text.specs.Text.{judgeText, tableInto, readFormula}
 use Rattle.text.proofs.Trees.{nodes-length}
+use Rattle.spelling.specs.Spelling.{sumText}
+use Rattle.spelling.specs.WriteText.{textPlaces, textInto, writeText}
 use Rattle.replay.specs.Telling.{Shows}
 use Rattle.replay.proofs.Shows.{itself, shows-refused, shows-written, checked}
 
@@ -71,6 +73,14 @@ substitute-shows bytes list ws cs area e = worked-shows (judgeSubstitute bytes l
 pub slope-shows : (bytes : List ℕ) (v : ℕ) (area : List ℕ) {t : Told} {x : List ℕ} → outcome t x ≡ slope bytes v area → Shows itself (length x) t
 unfolding slope
 slope-shows bytes v area e = checked (leb (mostBytes variables) (length area)) ROOM 0 area _ (λ f. packed-shows _ area f) e
+
+pub write-shows : (bytes area : List ℕ) {t : Told} {x : List ℕ} → outcome t x ≡ writeText bytes area → Shows itself (length x) t
+unfolding writeText textInto
+write-shows bytes area e = checked (leb textPlaces (length area)) ROOM 0 area _ (λ f. go (judged SUM (readWhole variables bytes)) f) e
+  where
+    go : (j : Judged Sum) {t : Told} {x : List ℕ} → outcome t x ≡ textInto j area → Shows itself (length x) t
+    go (good s) f = shows-written (sumText s) area f refl
+    go (fails refusal place) f = shows-refused f
 
 pub pack-shows : (count : ℕ) (ws : List ℕ) (cs : List ℤ) (area : List ℕ) {t : Told} {x : List ℕ} → outcome t x ≡ pack count ws cs area → Shows itself (length x) t
 unfolding pack

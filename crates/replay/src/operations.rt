@@ -30,6 +30,9 @@ fn result_named(name: &[u8]) -> Operation {
     if check::same(name, b"estimate") {
         return Operation::Result(Call::Estimate, 3, 0);
     }
+    if check::same(name, b"write") {
+        return Operation::Result(Call::Write, 1, 0);
+    }
     Operation::Unknown
 }
 

@@ -17,6 +17,7 @@ ghost use Rattle.replay.specs.Telling.{toldAs, Shows};
 pub enum Call {
     Slope,
     Estimate,
+    Write,
 }
 
 // The fields of bytes in their order, up to four; and the last number, with the one before it.
@@ -35,6 +36,7 @@ fn run(
     match call {
         Call::Slope => telling::answered(change::slope(a, last as u64, result)),
         Call::Estimate => telling::heard(router::reeveboom_estimate(a, b, c, result)),
+        Call::Write => telling::answered(spelling::write_text(a, result)),
     }
 }
 
