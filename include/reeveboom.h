@@ -229,7 +229,7 @@ uint64_t reeveboom_substitute(const uint8_t *sum, size_t sum_length,
  *
  * text: 8192 bytes or more. Done, as many as the number says are written, and the rest stay. No zero byte ends them.
  *
- * Returns the number of bytes, 1 to 7424. Refusals: ROOM, SUM.
+ * Returns the number of bytes, at least 1 and never above 7424. Refusals: ROOM, SUM.
  */
 uint64_t reeveboom_write(const uint8_t *sum, size_t sum_length,
                          uint8_t *text, size_t text_length);

@@ -25,7 +25,7 @@ pub record HasValues (bytes : List ℕ) (f : List ℤ → ℤ) : Type 0 where
   pub of-bytes : PackedSum bytes sum
   pub values : (x : List ℤ) → f x ≡ value sum x
 
--- the text is that of the sum in these bytes: a formula, whose tree has the sum's value everywhere; so it is, too, where it is longer than the reader takes
+-- the text is that of the sum in these bytes: a formula, whose tree has the sum's value everywhere, also where the text is longer than the reader takes
 pub record Spells (bytes text : List ℕ) : Type 0 where
   pub sum : Sum
   pub of-bytes : PackedSum bytes sum

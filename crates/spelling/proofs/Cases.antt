@@ -49,8 +49,8 @@ pub table : List Case
 unfolding becomes stays
 table =
     becomes "(a+b)^2-b^2" "a^2+2*a*b"
-    -- 1 is written only alone
     ∷ becomes "a-a" "0"
+    -- 1 is written only alone
     ∷ stays "1"
     ∷ stays "-1"
     ∷ becomes "1*a" "a"

@@ -8,7 +8,7 @@ pub mod Written
 pub mod Mailed
 pub mod Factors
 pub mod FromLetter
-pub mod Numbered
+pub mod WriteNumber
 pub mod Signs
 pub mod SumText
 pub mod Told

@@ -29,6 +29,7 @@ use Rattle.text.specs.Grammar.{Formula}
 use Rattle.text.specs.Text.{readFormula}
 use Rattle.text.proofs.Formulas.{tree-one}
 use Rattle.text.proofs.Trees.{size-some, nodes-length}
+use Rattle.text.proofs.TreePasses.{last-kept}
 use Rattle.text.specs.Promised.{Typed, TextRefuses.too-long, TextRefuses.too-many}
 use Rattle.text.proofs.Typing.{typed-accepts, typed-means, refuses-typed}
 use Rattle.text.proofs.Joining.{typed-table}
@@ -44,7 +45,7 @@ accepted-named s a = all-named s (accepted-good variables s a)
 -- ---- What the text means.
 
 pub text-means : (s : Sum) → Accepted variables s → Means (nodesOf 0 (sumTree s)) s
-text-means s a = let p = text-passes s a in subst (Means (nodesOf 0 (sumTree s))) (p .last) (passed-means (p .passed))
+text-means s a = let p = text-passes s a in subst (Means (nodesOf 0 (sumTree s))) (last-kept p) (passed-means (p .passed))
 
 -- ---- No other sum has it.
 
@@ -109,4 +110,4 @@ module _ (s : Sum) (a : Accepted variables s) (named : Named s) where
         let many = nodes-length 0 (sumTree s) in
         ap (λ l. simplify l ws cs area) (typed-table (text-typed short few))
         ∙ simplify-accepts ws cs area r (p .passed) (omega (arith, many, size-some (sumTree s))) (omega (arith, many))
-        ∙ ap (λ t. outcome (done (length (packed t))) (clearedWith ws cs (written (packed t) area))) (p .last)
+        ∙ ap (λ t. outcome (done (length (packed t))) (clearedWith ws cs (written (packed t) area))) (last-kept p)

@@ -21,8 +21,7 @@ use Rattle.formula.specs.Table.{entry}
 use Rattle.text.specs.Tree as tree
 use Rattle.text.specs.Tree.{Tree}
 use Rattle.spelling.specs.Spelling.{termTree, plusTerms, sumTree}
-use Rattle.text.proofs.TreePasses.{Passing, Passing.number, Passing.plus, tree-passes}
-use Rattle.text.specs.Promised.{TreePassed}
+use Rattle.text.proofs.TreePasses.{Passing, Passing.number, Passing.plus, TreePassed, tree-passes}
 use Rattle.spelling.proofs.TermPasses.{entry-is, term-passing}
 
 -- ---- The first terms of a sum, and the next.
@@ -79,6 +78,6 @@ sum-passing (t ∷ s) a =
     let first = next-passing [] t s (accepted-good variables (t ∷ s) a) in
     terms-passing s (t ∷ []) a (subst (Passing _) (entry-is (omega arith) (omega arith) refl) first)
 
--- all nodes pass, and the last sum is s
-pub text-passes : (s : Sum) → Accepted variables s → TreePassed (sumTree s) s
+-- all nodes pass; of the last one the sum itself is kept, with its own degree and weight
+pub text-passes : (s : Sum) → Accepted variables s → TreePassed (sumTree s) (entry (degreeOf s) (weight s) s)
 text-passes s a = tree-passes (sum-passing s a)

@@ -13,7 +13,8 @@ ghost use Rattle.numbers.specs.Decimal.{decimal};
 ghost use Rattle.spelling.specs.Spelling.{powers, letterText, morePowers, factorsText};
 ghost use Rattle.spelling.specs.Inside.Code.{lettersFrom};
 
-// A letter, with its exponent unless that is 1. The exponent has two digits at most. They are written here: with a call for each letter all took a fifth longer.
+// A letter, with its exponent unless that is 1. The exponent has two digits at most. They are written here:
+// with a call for them, writing took a fifth longer.
 fn write_letter(area: &mut [u8], at: usize, v: u64, e: u64) -> usize
     requires { ⌜ v < variables ⌝ }
     requires { ⌜ e ≤ largestDegree ⌝ }

@@ -13,7 +13,7 @@ ghost use Rattle.algebra.specs.Held.{firstTerms};
 ghost use Rattle.answers.specs.Areas.{written};
 ghost use Rattle.numbers.specs.Decimal.{decimal};
 ghost use Rattle.spelling.specs.Spelling.{powers, nextSign, firstText, nextText, sumText};
-ghost use Rattle.spelling.specs.Inside.Code.{numbered};
+ghost use Rattle.spelling.specs.Inside.Code.{afterNumber};
 
 // What stands before a term that is not the first.
 fn next_sign(coefficient: i64) -> u8
@@ -22,7 +22,7 @@ fn next_sign(coefficient: i64) -> u8
     if coefficient >= 0 { b'+' } else { b'-' }
 }
 
-// The first term of a sum: a minus, if it is negative. It answers the place after it, and so does `write_next`.
+// Writes the first term of a sum, after a minus if it is negative. It answers the place after the term, and so does `write_next`.
 fn write_first(area: &mut [u8], at: usize, coefficient: i64, pattern: Pattern) -> usize
     requires { ⌜ Valid (pattern .0) ⌝ }
     requires { ⌜ at + length (firstText (term coefficient (exponents (pattern .0)))) ≤ length (now area) ⌝ }
@@ -42,7 +42,7 @@ fn write_first(area: &mut [u8], at: usize, coefficient: i64, pattern: Pattern) -
 fn write_number(area: &mut [u8], at: usize, size: u64, pattern: Pattern) -> usize
     requires { ⌜ Valid (pattern .0) ⌝ }
     requires { ⌜ at + 1 + length (decimal size) ≤ length (now area) ⌝ }
-    ensures { λ r. ⌜ (r, now (area .exit)) ≡ numbered size (powers 0 (exponents (pattern .0))) at (now (area .entry)) ⌝ }
+    ensures { λ r. ⌜ (r, now (area .exit)) ≡ afterNumber size (powers 0 (exponents (pattern .0))) at (now (area .entry)) ⌝ }
 {
     if size != 1 {
         return decimal::write_decimal(area, at + 1, size);
@@ -53,7 +53,7 @@ fn write_number(area: &mut [u8], at: usize, size: u64, pattern: Pattern) -> usiz
     at
 }
 
-// A further one. Its sign goes to its place last, and over the first * where 1 is not written: so letters are written in one way.
+// A further term. Its sign goes to its place last, and over the first * where 1 is not written: so letters are written in one way.
 fn write_next(area: &mut [u8], at: usize, coefficient: i64, pattern: Pattern) -> usize
     requires { ⌜ Valid (pattern .0) ⌝ }
     requires { ⌜ at + length (nextText (term coefficient (exponents (pattern .0)))) ≤ length (now area) ⌝ }

@@ -13,11 +13,11 @@ use Rattle.algebra.specs.Arithmetic.{_⊕_, _⊗_, sumSpread, productSpread, po
 use Rattle.nodes.specs.Node.{Kind, Kind.integer, Kind.variable, Kind.sum, Kind.product, Kind.power, isNode}
 use Rattle.nodes.specs.Formal.{formalDegree, formalWeight, nodeSpread, nodeSum}
 use Rattle.formula.specs.Table.{Entry, entry, sums, entryOf}
+use Rattle.formula.specs.Simplify.{lastSum}
 use Rattle.formula.specs.Checks.{Passed, Passed.none, Passed.more}
 use Rattle.formula.proofs.Sound.{nodeAt, degree-of, weight-of, sum-of}
 use Rattle.text.specs.Tree as tree
 use Rattle.text.specs.Tree.{Tree, nodeCount, own, nodesOf}
-use Rattle.text.specs.Promised.{TreePassed}
 use Rattle.text.proofs.Kept.{Kept, kept-all, kept-more, kept-then}
 use Rattle.text.proofs.Trees.{size-some}
 use Rattle.text.proofs.Table.{both-before, base-before}
@@ -189,12 +189,18 @@ passing-after (minus q w) p h = after-minus (passing-after q p h) w
 
 -- ---- All nodes of a tree.
 
-pub tree-passes : {t : Tree} {e : Entry} → Passing t e → TreePassed t (e .sum)
-tree-passes {t} {e} q =
-    let a = passing-after q none refl in
-    let at : length (a .entries) - 1 ≡ own 0 t = omega (arith, a .known .kept .long) in
-    record {
-      entries = a .entries;
-      passed = a .known .passed;
-      last = ap (λ (j : ℕ). getD (sums (a .entries)) j []) at ∙ sum-of (a .entries) (own 0 t) ∙ ap (λ (x : Entry). x .sum) (a .last);
-    }
+-- they pass, and e is what is kept of the tree's own, which is the last of them
+pub record TreePassed (t : Tree) (e : Entry) : Type 0 where
+  pub entries : List Entry
+  pub passed : Passed (nodesOf 0 t) entries
+  pub many : length entries ≡ nodeCount t
+  pub own-is : nodeAt entries (own 0 t) ≡ e
+
+pub tree-passes : {t : Tree} {e : Entry} → Passing t e → TreePassed t e
+tree-passes q = let a = passing-after q none refl in record { entries = a .entries; passed = a .known .passed; many = omega (arith, a .known .kept .long); own-is = a .last }
+
+-- so the last of their sums is the one that is kept of it
+pub last-kept : {t : Tree} {e : Entry} (p : TreePassed t e) → lastSum (p .entries) ≡ e .sum
+last-kept {t} p =
+    let at : length (p .entries) - 1 ≡ own 0 t = omega (arith, p .many) in
+    ap (λ (j : ℕ). getD (sums (p .entries)) j []) at ∙ sum-of (p .entries) (own 0 t) ∙ ap (λ (x : Entry). x .sum) (p .own-is)

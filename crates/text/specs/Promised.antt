@@ -5,13 +5,9 @@ use Prim.Native.Nat.{ℕ, _≤_, _<_}
 use lib.IntN.{ℤ}
 use lib.ListN.{length}
 use Rattle.algebra.specs.Limits.{mostNodes}
-use Rattle.algebra.specs.Sum.{Sum}
 use Rattle.answers.specs.Refusals.{ROOM, TEXT, NODES}
 use Rattle.answers.specs.Areas.{written}
 use Rattle.nodes.specs.Node.{tableOf}
-use Rattle.formula.specs.Table.{Entry}
-use Rattle.formula.specs.Simplify.{lastSum}
-use Rattle.formula.specs.Checks.{Passed}
 use Rattle.text.specs.Limits.{longestText, tablePlaces}
 use Rattle.text.specs.Tree.{Tree, nodeCount, nodesOf}
 use Rattle.text.specs.Grammar.{Formula, Longest}
@@ -33,11 +29,3 @@ pub data TextRefuses (text : List ℕ) (table : List ℤ) : ℕ → ℕ → List
   no-formula : {p : ℕ} → tablePlaces ≤ length table → length text ≤ longestText → ((t : Tree) → Formula text t → ⊥) → Longest text p
       → TextRefuses text table TEXT p table
   too-many : {t : Tree} → tablePlaces ≤ length table → length text ≤ longestText → Formula text t → mostNodes < nodeCount t → TextRefuses text table NODES 0 table
-
--- ---- The nodes of a tree, however many there are.
-
--- all of them pass their checks, and the last of their sums is s
-pub record TreePassed (t : Tree) (s : Sum) : Type 0 where
-  pub entries : List Entry
-  pub passed : Passed (nodesOf 0 t) entries
-  pub last : lastSum entries ≡ s

@@ -19,5 +19,5 @@ isLeftOut c [] = false
 isLeftOut c (f ∷ fs) = eqb c 1
 
 -- where the letters of a term begin whose sign has the place `at`, and the area with the number before them
-unfoldable pub numbered : ℕ → List Power → ℕ → List ℕ → ℕ × List ℕ
-numbered c fs at area = cond (isLeftOut c fs) (at, area) (at + 1 + length (decimal c), sets area (at + 1) (decimal c))
+unfoldable pub afterNumber : ℕ → List Power → ℕ → List ℕ → ℕ × List ℕ
+afterNumber c fs at area = cond (isLeftOut c fs) (at, area) (at + 1 + length (decimal c), sets area (at + 1) (decimal c))

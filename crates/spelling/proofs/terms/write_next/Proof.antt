@@ -10,7 +10,7 @@ use Rattle.algebra.specs.Word.{exponents}
 use Rattle.numbers.proofs.Writing.{finished, over-first}
 use Rattle.spelling.specs.Spelling.{powers, factorsText}
 use Rattle.spelling.proofs.Signs.{next-length, next-is}
-use Rattle.spelling.proofs.Numbered.{Open, opened, number-within}
+use Rattle.spelling.proofs.WriteNumber.{Open, opened, number-within}
 use Rattle.spelling.proofs.terms.write_next.Statement.{statement}
 use Rattle.spelling.proofs.terms.write_next.Tie as tie
 

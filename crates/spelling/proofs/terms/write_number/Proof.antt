@@ -1,7 +1,7 @@
 -- `write_number` meets its contract: the number is left out exactly if it is 1 and the pattern has a letter.
 use mathlib.Core.Path.{sym, _∙_}
 use borrow.Author.Needs.{needs}
-use Rattle.spelling.proofs.Numbered.{left-out, other-written, alone-written}
+use Rattle.spelling.proofs.WriteNumber.{left-out, other-written, alone-written}
 use Rattle.spelling.proofs.terms.write_number.Statement.{statement}
 use Rattle.spelling.proofs.terms.write_number.Tie as tie
 

@@ -16,7 +16,7 @@ use Rattle.numbers.proofs.Writing.{Writing, start, left-as, next}
 use Rattle.text.specs.Signs.{timesSign}
 use Rattle.text.proofs.Byte.{decide}
 use Rattle.spelling.specs.Spelling.{Power, powers, letterText, morePowers, factorsText}
-use Rattle.spelling.specs.Inside.Code.{isLeftOut, numbered}
+use Rattle.spelling.specs.Inside.Code.{isLeftOut, afterNumber}
 use Rattle.spelling.proofs.Factors.{one-unwritten, number-alone, number-first, one-joined}
 
 -- ---- When a number is left out.
@@ -41,24 +41,24 @@ one-goes c v (suc e ∷ p) is some = eq-eqb c 1 is
 -- ---- What `write_number` answers.
 
 module _ (c at : ℕ) (area : List ℕ) (p : Pattern) where
-  pub left-out : c ≡ 1 → (degree p ≡ 0 → ⊥) → (at, area) ≡ numbered c (powers 0 p) at area
-  unfolding numbered
+  pub left-out : c ≡ 1 → (degree p ≡ 0 → ⊥) → (at, area) ≡ afterNumber c (powers 0 p) at area
+  unfolding afterNumber
   left-out is some = rw (one-goes c 0 p is some)
 
   stays : isLeftOut c (powers 0 p) ≡ false → {r : ℕ} {area' : List ℕ} → r ≡ at + 1 + length (decimal c) → area' ≡ sets area (at + 1) (decimal c)
-      → (r, area') ≡ numbered c (powers 0 p) at area
-  unfolding numbered
+      → (r, area') ≡ afterNumber c (powers 0 p) at area
+  unfolding afterNumber
   stays e there now = rw (e, there, now)
 
   pub other-written : (c ≡ 1 → ⊥) → {r : ℕ} {area' : List ℕ} → r ≡ at + 1 + length (decimal c) → area' ≡ sets area (at + 1) (decimal c)
-      → (r, area') ≡ numbered c (powers 0 p) at area
+      → (r, area') ≡ afterNumber c (powers 0 p) at area
   other-written other = stays (other-stays c other (powers 0 p))
 
   pub alone-written : degree p ≡ 0 → {r : ℕ} {area' : List ℕ} → r ≡ at + 1 + length (decimal c) → area' ≡ sets area (at + 1) (decimal c)
-      → (r, area') ≡ numbered c (powers 0 p) at area
+      → (r, area') ≡ afterNumber c (powers 0 p) at area
   alone-written none = stays (none-stays c 0 p none)
 
--- ---- What is left to write after it: the letters, which complete a run of one byte, the sign's, and the factors.
+-- ---- What is left after it: the letters. With them the run is one byte for the sign, and then the factors.
 
 pub record Open (area : List ℕ) (at c : ℕ) (fs : List Power) (area' : List ℕ) (r : ℕ) : Type 0 where
   pub first : ℕ
@@ -76,8 +76,8 @@ module _ (area : List ℕ) (at c : ℕ) where
       let all : b ∷ factorsText c fs ≡ (b ∷ decimal c) ++ morePowers fs = ap (λ (l : List ℕ). b ∷ l) is in
       record { first = b; writing = next (b ∷ decimal c) (morePowers fs) all (start area at (b ∷ factorsText c fs) room) kept there }
 
-  opens : (fs : List Power) → at + suc (length (factorsText c fs)) ≤ length area → let n = numbered c fs at area in Open area at c fs (n .1) (n .0)
-  unfolding numbered isLeftOut
+  opens : (fs : List Power) → at + suc (length (factorsText c fs)) ≤ length area → let n = afterNumber c fs at area in Open area at c fs (n .1) (n .0)
+  unfolding afterNumber isLeftOut
   opens [] room = written-open [] (number-alone c refl) room
   opens (f ∷ fs) room =
       decide (eqb c 1)
@@ -87,7 +87,7 @@ module _ (area : List ℕ) (at c : ℕ) where
       }))
       (λ e. rw e (written-open (f ∷ fs) (number-first c (eqb-false c 1 e) (f ∷ fs)) room))
 
-  pub opened : (fs : List Power) → at + suc (length (factorsText c fs)) ≤ length area → {r : ℕ} {area' : List ℕ} → (r, area') ≡ numbered c fs at area → Open area at c fs area' r
+  pub opened : (fs : List Power) → at + suc (length (factorsText c fs)) ≤ length area → {r : ℕ} {area' : List ℕ} → (r, area') ≡ afterNumber c fs at area → Open area at c fs area' r
   opened fs room is = subst (λ (n : ℕ × List ℕ). Open area at c fs (n .1) (n .0)) (sym is) (opens fs room)
 
 -- there is room for the number, whether it is written or not
