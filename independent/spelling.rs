@@ -11,7 +11,7 @@ pub fn letter_of(variable: usize) -> char {
     char::from(FIRST_LETTER + variable as u8)
 }
 
-/// A term without its sign: coefficient and letters, in order, joined by *.
+/// A term without its sign: its factors, the number first, with a * from each to the next.
 fn unsigned(term: &Term) -> String {
     let mut factors = Vec::new();
     let size = term.coefficient.unsigned_abs();
