@@ -1,5 +1,7 @@
 // Power patterns, each in one machine word. What a sum is, and the laws of sums, need no code: they stand in specs/ and proofs/.
 // Begin with specs/Pattern.antt, Sum.antt and Collect.antt, then with `Pattern`.
+#![tactic(auto)]
+
 ghost use Rattle.std.specs.Prelude.{◌≡◌, ◌+◌, ◌*◌, ◌-◌, ◌≤◌, ◌<◌, set};
 ghost use Rattle.algebra.specs.Limits.{variables, largest_degree, most_terms, largest_weight, most_nodes, work_places};
 ghost use Rattle.algebra.specs.Inside.Either.{either};

@@ -1,5 +1,7 @@
 // What an operation answers: done with a number, or refused with a place.
 // Begin with specs/Refusals.antt and specs/Answers.antt, then with `areas`: what is done to the first places of a lent area.
+#![tactic(auto)]
+
 ghost use Rattle.std.specs.Prelude.{◌≡◌, ◌≤◌, T};
 ghost use Rattle.answers.specs.Refusals.{number};
 ghost use Rattle.answers.specs.Answers.{told};

@@ -1,5 +1,7 @@
 // What is done to packed sums: the slope by a variable, and sums put for variables.
 // Begin with specs/Slope.antt and specs/Substitute.antt, then with `slope` and `substitute`.
+#![tactic(auto)]
+
 ghost use Rattle.std.specs.Prelude.{◌≡◌, ◌≤◌, length, take, drop};
 ghost use Rattle.algebra.specs.Limits.{variables, work_places};
 ghost use Rattle.algebra.specs.Held.{first_terms};

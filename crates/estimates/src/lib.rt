@@ -1,5 +1,7 @@
 // The estimate of a sum in slices at readings, and its margin: what finds them, for every operation that asks.
 // Begin with specs/Readings.antt and specs/Range.antt, then with `estimate_at`; `readings` reads the numbers and judges them.
+#![tactic(auto)]
+
 ghost use Rattle.std.specs.Prelude.{◌≡◌, length};
 ghost use Rattle.algebra.specs.Limits.{variables};
 ghost use Rattle.algebra.specs.Word.{terms};

@@ -1,5 +1,7 @@
 // Formula tables, and Simplify.
 // Begin with specs/Table.antt and specs/Simplify.antt, then with `simplify`; what a formula means is in specs/Meaning.antt.
+#![tactic(auto)]
+
 ghost use Rattle.std.specs.Prelude.{◌≡◌, [], ◌≤◌, T, length, drop};
 ghost use Rattle.algebra.specs.Limits.{variables, work_places};
 ghost use Rattle.answers.specs.Answers.{told, outcome};

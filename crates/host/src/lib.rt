@@ -1,5 +1,7 @@
 // Every operation, for a C host: each exported function does nothing but call the operation, and gives its answer as one number.
 // Begin with `hosted` in specs/Host.antt of `answers`, then with any of the functions; include/reeveboom.h declares them.
+#![tactic(auto)]
+
 ghost use Rattle.std.specs.Prelude.{◌≡◌};
 ghost use Rattle.answers.specs.Host.{hosted, narrow_unit, wide_unit};
 ghost use Rattle.text.specs.Text.{read_formula};

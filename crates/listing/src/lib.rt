@@ -1,5 +1,7 @@
 // What the program `terms` prints of a typed formula: the terms of its sum, or a refusal.
 // Begin with specs/Listing.antt, then with `list`.
+#![tactic(auto)]
+
 ghost use Rattle.std.specs.Prelude.{◌≡◌, ◌≤◌, length};
 ghost use Rattle.algebra.specs.Limits.{variables};
 ghost use Rattle.answers.specs.Answers.{told, outcome};

@@ -1,5 +1,7 @@
 // Nodes of a formula: read from their three numbers, their formal degree and weight, and their sums in the work areas.
 // Begin with specs/Node.antt and specs/Formal.antt, then with `Kind`, `read_node` and `make_node`; `work` forms a node's sum.
+#![tactic(auto)]
+
 ghost use Rattle.std.specs.Prelude.{◌≡◌, T, pos, length};
 ghost use Rattle.algebra.specs.Limits.{largest_degree, largest_weight};
 ghost use Rattle.nodes.specs.Node.{is_in, is_node, read_node};

@@ -1,5 +1,7 @@
 // Whole numbers as bytes: in groups of seven bits, signed ones as codes; in decimal digits; and in two's complement.
 // Begin with specs/Number.antt and specs/Code.antt, then with `read_number` and `code`.
+#![tactic(auto)]
+
 ghost use Rattle.std.specs.Prelude.{◌≡◌, ◌+◌, ◌≤◌, nat_abs, length};
 ghost use Rattle.std.proofs.lemmas.List.Edits.{sets};
 ghost use Rattle.numbers.specs.Number.{number_bytes, read_number};

@@ -1,5 +1,7 @@
 // Packed sums: read item by item, unpacked into two lent areas, and packed from them.
 // Begin with specs/Packed.antt and specs/ReadSum.antt, then with `unpack` and `pack`. `reader` has the packed reader, through which `items` and `fast` read terms.
+#![tactic(auto)]
+
 ghost use Rattle.std.specs.Prelude.{◌≡◌, ◌≤◌, length};
 ghost use Rattle.algebra.specs.Limits.{variables, most_terms};
 ghost use Rattle.answers.specs.Refusals.{SUM};

@@ -1,6 +1,8 @@
 // One pair of a substitution list: a sum is put for a variable. `fp` and `fc` hold the sum into which it is put, `sp` and `sc` the sum that is put for the
 // variable v.
 // Begin with specs/Asked.antt and specs/Formed.antt, then with `measure` (degree and weight) and `putting::put`.
+#![tactic(auto)]
+
 ghost use Rattle.std.specs.Prelude.{◌≡◌};
 ghost use Rattle.algebra.specs.Substitute.{pair_degree, pair_weight, largest_power};
 ghost use Rattle.algebra.specs.Word.{terms};

@@ -1,5 +1,7 @@
 // Reads cases from standard input, one on each line, runs each on the library, and writes a line of what came back.
 // Begin with docs/REPLAY.md, which has the lines, then with `main` and `operations`.
+#![tactic(auto)]
+
 ghost use Rattle.std.specs.Prelude.{◌+◌, ◌≤◌, length};
 ghost use Rattle.replay.specs.Limits.{most_answer, most_gathered};
 ghost use Rattle.replay.specs.Gathering.{Gathers};

@@ -1,5 +1,7 @@
 // What the router asks: the value of a packed sum at its readings, and a bound on how far the true value is from it.
 // Begin with specs/Estimate.antt, then with `estimate`; `estimates` has what finds estimate and margin.
+#![tactic(auto)]
+
 ghost use Rattle.std.specs.Prelude.{◌≡◌, ◌≤◌, length};
 ghost use Rattle.algebra.specs.Limits.{largest_weight};
 ghost use Rattle.algebra.specs.Word.{terms};

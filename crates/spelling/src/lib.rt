@@ -1,5 +1,7 @@
 // A packed sum back as typed text.
 // Begin with specs/Spelling.antt and specs/WriteText.antt, then with `write_text`. proofs/Mailed.antt has what a reader of the text may count on.
+#![tactic(auto)]
+
 ghost use Rattle.std.specs.Prelude.{◌≡◌};
 ghost use Rattle.answers.specs.Answers.{told, outcome};
 ghost use Rattle.spelling.specs.WriteText.{write_text};

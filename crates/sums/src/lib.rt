@@ -1,6 +1,8 @@
 // Sums in slices: the word of each pattern in one, the coefficients in the other. `sp` and `sc` hold the sum s, `tp` and `tc` the sum t; what is
 // formed is written to the first places of two areas, patterns and coefficients.
 // Begin with specs/Asked.antt and specs/Formed.antt, then with `sum`, `product` and `power`; `rows` merges a row of products into a running sum.
+#![tactic(auto)]
+
 ghost use Rattle.std.specs.Prelude.{◌≡◌, ◌+◌, ◌^◌, ◌≤◌, ◌<◌, length};
 ghost use Rattle.algebra.specs.Limits.{variables};
 ghost use Rattle.algebra.specs.Sum.{term, degree_of, weight};

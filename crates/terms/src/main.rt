@@ -1,4 +1,6 @@
 // Reads one formula from standard input, and prints the terms of its sum, or why it is refused.
+#![tactic(auto)]
+
 use answers::Answer;
 use libc::{STDIN_FILENO, STDOUT_FILENO};
 

@@ -1,5 +1,7 @@
 // Takes each line of standard input as a formula, and prints of each what `terms` prints. It is for stored runs: of a longer input it takes the first 65,536
 // bytes only, and the last line as far as it goes.
+#![tactic(auto)]
+
 ghost use Rattle.std.specs.Prelude.{◌≤◌, length};
 
 use answers::Answer;

@@ -1,5 +1,7 @@
 // Typed formulas, read into tables.
 // Begin with specs/Grammar.antt and specs/Text.antt, then with `read_formula`; the four readers that call each other are in `readers`.
+#![tactic(auto)]
+
 ghost use Rattle.std.specs.Prelude.{◌≡◌};
 ghost use Rattle.answers.specs.Answers.{told, outcome};
 ghost use Rattle.text.specs.Text.{read_formula};

@@ -1,6 +1,8 @@
 // Degrees and weights as the code keeps them. A weight is exact up to 2^62, and every weight above that is told by 2^62 + 1: so one that is far too large is
 // found without being formed.
 // Begin with specs/Capped.antt, then with `sum`, `product` and `power`.
+#![tactic(auto)]
+
 ghost use Rattle.std.specs.Prelude.{◌≡◌, ◌+◌, ◌*◌, ◌^◌, ◌<◌, max};
 ghost use Rattle.weights.specs.Capped.{capped};
 
