@@ -11,7 +11,7 @@ ghost use Rattle.answers.specs.Inside.Fits.{fits_host, largest_unit};
 pub mod areas;
 
 // Why an operation refuses.
-#[derive(Drop)]
+#[derive(Clone, Copy)]
 pub enum Refusal {
     Room,
     Shape,
@@ -28,7 +28,7 @@ pub enum Refusal {
     Nodes,
 }
 
-#[derive(Drop)]
+#[derive(Clone, Copy)]
 pub enum Answer {
     // The number that the operation returns.
     Done(usize),
