@@ -46,7 +46,7 @@ pub fn work_places() -> usize
 }
 
 // Where a pattern stands in the term order, seen from another one.
-#[derive(Drop)]
+#[derive(Clone, Copy)]
 pub enum Standing {
     Before,
     Same,
@@ -54,7 +54,7 @@ pub enum Standing {
 }
 
 // What a slope needs of one pattern: the power of the variable, and the pattern with one power less.
-#[derive(Drop)]
+#[derive(Clone, Copy)]
 pub struct Step {
     pub power: u64,
     pub pattern: Pattern,
@@ -62,7 +62,7 @@ pub struct Step {
 
 // Eight exponents, a byte each, a in the highest byte. A valid pattern's degree is at most 60, so no
 // byte runs over into the next, and whole words can be added, compared and divided.
-#[derive(Drop)]
+#[derive(Clone, Copy)]
 pub struct Pattern(pub u64);
 
 impl Pattern {
