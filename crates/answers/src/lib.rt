@@ -64,7 +64,7 @@ impl Answer {
     // Asks that the unit is at most 2^32, and the number that is returned, or the place, is below it.
     pub fn for_host(self, unit: u64) -> u64
         requires unit_le_largest_unit { unit ≤ largest_unit }
-        requires t { T (fits_host unit (told self)) }
+        requires fits { T (fits_host unit (told self)) }
         ensures { result ≡ host_number unit (told self) }
     {
         match self {

@@ -12,7 +12,7 @@ use answers::{Answer, Refusal};
 use numbers::Read;
 
 // Why a list is at fault.
-#[derive(Drop)]
+#[derive(Clone, Copy)]
 pub enum Fault {
     // It ends too soon.
     Ended,
@@ -23,7 +23,7 @@ pub enum Fault {
 }
 
 // What reading a list answers.
-#[derive(Drop)]
+#[derive(Clone, Copy)]
 pub enum Listed {
     // The number of pairs, and the place after them.
     Pairs(usize, usize),

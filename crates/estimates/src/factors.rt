@@ -5,7 +5,7 @@ ghost use Rattle.estimates.specs.Inside.Parts.{Sound, Times, TimesPower};
 
 use algebra::LARGEST_WEIGHT;
 
-#[derive(Drop)]
+#[derive(Clone, Copy)]
 pub struct Both {
     pub most: u64,
     pub value: i64,

@@ -20,7 +20,7 @@ mod valuing;
 pub const VARIABLES: usize = Pattern::VARIABLES as usize;
 
 // What is found of a sum at readings.
-#[derive(Drop)]
+#[derive(Clone, Copy)]
 pub enum Found {
     // The estimate, and its margin.
     Within(i64, u64),

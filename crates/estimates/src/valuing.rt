@@ -23,7 +23,7 @@ const NARROW_PLACES: usize = VARIABLES * NARROW;
 const WIDE_PLACES: usize = VARIABLES * WIDE;
 
 // What a sum of terms comes to: its raised value, the most that it can be; its value at the readings; and that with all signs dropped.
-#[derive(Drop)]
+#[derive(Clone, Copy)]
 pub struct Parts {
     pub most: u64,
     pub estimate: i64,

@@ -33,7 +33,7 @@ fn is_shape(n: usize) -> bool
 
 // Reads, judges and forms the nodes from 0 up. Done, it returns the number of terms of the last one.
 fn form_nodes(table: &[i64], patterns: &mut [u64], coefficients: &mut [i64]) -> Answer
-    requires t { T (is_shape (length table.now)) }
+    requires shape { T (is_shape (length table.now)) }
     requires work_places_in_bounds { work_places ≤ length patterns.old }
     requires work_places_in_bounds_2 { work_places ≤ length coefficients.old }
     ensures result_value { told result ≡ terms_told (judge_nodes [] table.now) }

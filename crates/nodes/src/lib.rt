@@ -15,7 +15,7 @@ use algebra::Pattern;
 pub mod work;
 
 // What a node is, with its own data. Children are named by their index.
-#[derive(Drop)]
+#[derive(Clone, Copy)]
 pub enum Kind {
     Integer(i64),
     Variable(u64),
@@ -26,7 +26,7 @@ pub enum Kind {
 }
 
 // A node that was read: its formal degree and its formal weight beside its kind. Every weight above 2^62 is told by 2^62 + 1.
-#[derive(Drop)]
+#[derive(Clone, Copy)]
 pub struct Node {
     pub degree: u64,
     pub weight: u64,
@@ -34,7 +34,7 @@ pub struct Node {
 }
 
 // What three numbers are read as.
-#[derive(Drop)]
+#[derive(Clone, Copy)]
 pub enum Found {
     Good(Kind),
     // They are those of no node.
@@ -110,7 +110,7 @@ pub fn read_node(i: usize, kind: i64, first: i64, second: i64) -> Found
 // ---- The formal degree and the formal weight, from those of the nodes before.
 
 fn formal_degree(kind: Kind, degrees: &[u64]) -> u64
-    requires t { T (is_node (length degrees.now) (kind_of kind)) }
+    requires node { T (is_node (length degrees.now) (kind_of kind)) }
     requires each_at_most { EachAtMost largest_degree degrees.now }
     ensures { result ≡ formal_degree degrees.now (kind_of kind) }
 {
@@ -124,7 +124,7 @@ fn formal_degree(kind: Kind, degrees: &[u64]) -> u64
 }
 
 fn formal_weight(kind: Kind, weights: &[u64]) -> u64
-    requires t { T (is_node (length weights.now) (kind_of kind)) }
+    requires node { T (is_node (length weights.now) (kind_of kind)) }
     requires each_at_most { EachAtMost largest_weight weights.now }
     ensures { result ≡ capped (formal_weight weights.now (kind_of kind)) }
 {
@@ -140,7 +140,7 @@ fn formal_weight(kind: Kind, weights: &[u64]) -> u64
 // The node of a kind, with its formal degree and weight from those of the nodes before.
 // Asks that the node's children stand before it, and their degrees and weights are within the limits.
 pub fn make_node(kind: Kind, degrees: &[u64], weights: &[u64]) -> Node
-    requires t { T (is_node (length degrees.now) (kind_of kind)) }
+    requires node { T (is_node (length degrees.now) (kind_of kind)) }
     requires degrees_len { length degrees.now ≡ length weights.now }
     requires each_at_most { EachAtMost largest_degree degrees.now }
     requires each_at_most_2 { EachAtMost largest_weight weights.now }

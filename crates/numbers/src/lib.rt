@@ -12,7 +12,7 @@ pub mod bytes;
 pub mod decimal;
 
 // What a reader of bytes answers. Those who read with it show a coefficient's code, a pattern's word or the number of a sum's terms.
-#[derive(Drop)]
+#[derive(Clone, Copy)]
 pub enum Read {
     // What was read, and the place after it.
     Value(u64, usize),

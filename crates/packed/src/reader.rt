@@ -10,7 +10,7 @@ ghost use Rattle.numbers.specs.Inside.Read.{item_of};
 use algebra::Pattern;
 use numbers::Read;
 
-#[derive(Drop)]
+#[derive(Clone, Copy)]
 pub(crate) struct Reader<'a> {
     bytes: &'a [u8],
     at: usize,

@@ -14,7 +14,7 @@ use algebra::Pattern;
 pub mod putting;
 
 // What a pair is judged by before anything is formed; and the largest power of the variable. A weight above 2^62 is told by 2^62 + 1.
-#[derive(Drop)]
+#[derive(Clone, Copy)]
 pub struct Measured {
     pub degree: u64,
     pub weight: u64,

@@ -6,7 +6,7 @@ ghost use Rattle.replay.specs.Fields.{DigitAt, ByteAt, WordIn, Within, Rising, P
 use crate::digits::NO_DIGIT;
 use crate::{MOST_BYTES, MOST_WORDS, digits};
 
-#[derive(Drop)]
+#[derive(Clone, Copy)]
 pub enum Field {
     // How many places of an area are filled now, or a number; and the place after the field.
     Got(usize, usize),
@@ -14,14 +14,14 @@ pub enum Field {
 }
 
 // A word of 16 digits.
-#[derive(Drop)]
+#[derive(Clone, Copy)]
 pub enum Word {
     Bits(u64),
     Nothing,
 }
 
 // How a case is written: so many fields of bytes, up to four, so many numbers, up to two, and then how long each of the lent areas is that there are.
-#[derive(Drop)]
+#[derive(Clone, Copy)]
 pub struct Form {
     pub bytes: usize,
     pub numbers: usize,
@@ -31,7 +31,7 @@ pub struct Form {
 }
 
 // Where fields of bytes end in the area that they are put into, one behind the other. Those that there are not end with the last.
-#[derive(Drop)]
+#[derive(Clone, Copy)]
 pub struct Ends {
     pub first: usize,
     pub second: usize,
@@ -40,28 +40,28 @@ pub struct Ends {
 }
 
 // The fields of bytes, and the place after them.
-#[derive(Drop)]
+#[derive(Clone, Copy)]
 pub enum Parts {
     Are(Ends, usize),
     Bad,
 }
 
 // The last number and the one before it, and the place after them.
-#[derive(Drop)]
+#[derive(Clone, Copy)]
 pub enum Numbers {
     Are(usize, usize, usize),
     Bad,
 }
 
 // How long the result, the patterns and the coefficients are: 0 for what is not lent.
-#[derive(Drop)]
+#[derive(Clone, Copy)]
 pub enum Lengths {
     Are(usize, usize, usize),
     Bad,
 }
 
 // What a line says, by a form.
-#[derive(Drop)]
+#[derive(Clone, Copy)]
 pub struct Case {
     pub ends: Ends,
     pub before: usize,
@@ -71,7 +71,7 @@ pub struct Case {
     pub coefficients: usize,
 }
 
-#[derive(Drop)]
+#[derive(Clone, Copy)]
 pub enum Taken {
     Is(Case),
     Bad,

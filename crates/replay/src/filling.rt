@@ -6,7 +6,7 @@ ghost use Rattle.replay.specs.Filling.{filled_byte, filled_word, filled_signed, 
 use algebra::WORK_PLACES;
 
 // What has become of an area.
-#[derive(Drop)]
+#[derive(Clone, Copy)]
 pub enum Fate {
     Stay,
     Zero,

@@ -40,7 +40,7 @@ const ENOUGH: usize = 65536;
 const MOST_GATHERED: usize = ENOUGH + MOST_ANSWER;
 
 // How far it has come: the bytes of the line that has begun, and of the answers that are not written yet.
-#[derive(Drop)]
+#[derive(Clone, Copy)]
 struct Progress {
     line: usize,
     gathered: usize,

@@ -5,7 +5,7 @@ ghost use Rattle.replay.specs.Limits.{most_answer};
 use crate::results::Call;
 use crate::{LONGEST_LINE, changes, fields, formulas, lines, packing, results};
 
-#[derive(Drop)]
+#[derive(Clone, Copy)]
 enum Operation {
     Text,
     Simplify,

@@ -8,7 +8,7 @@ use crate::fields::{Case, Form, Taken};
 use crate::telling::Told;
 use crate::{areas, fields, filling, lines, telling};
 
-#[derive(Drop)]
+#[derive(Clone, Copy)]
 pub enum Call {
     Slope,
     Estimate,

@@ -8,7 +8,7 @@ ghost use Rattle.replay.specs.Telling.{told_as, Shows};
 use crate::{filling, lines};
 use answers::Answer;
 
-#[derive(Drop)]
+#[derive(Clone, Copy)]
 pub enum Told {
     // The number returned.
     Done(usize),

@@ -23,7 +23,7 @@ mod monomial;
 pub mod rows;
 
 // What forming a sum answers.
-#[derive(Drop)]
+#[derive(Clone, Copy)]
 pub enum Formed {
     // The number of its terms.
     Terms(usize),
@@ -32,7 +32,7 @@ pub enum Formed {
 }
 
 // The degree and the weight of a sum.
-#[derive(Drop)]
+#[derive(Clone, Copy)]
 pub struct Size {
     pub degree: u64,
     pub weight: u64,

@@ -58,7 +58,7 @@ fn last_stands(ranks: &[u64], i: usize, rank: u64) -> Standing
 }
 
 // What a merge leaves: a gap between the terms that stayed where they were and those that were moved or put in.
-#[derive(Drop)]
+#[derive(Clone, Copy)]
 struct Gap {
     from: usize,
     to: usize,

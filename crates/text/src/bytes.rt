@@ -6,14 +6,14 @@ ghost use Rattle.text.specs.Inside.Code.{letter_is};
 ghost use Rattle.text.specs.Reader.{byte_at, takes, digits_at, is_sign, after_minus};
 
 // What a byte names.
-#[derive(Drop)]
+#[derive(Clone, Copy)]
 pub enum Letter {
     Names(u64),
     Nothing,
 }
 
 // The value of a number, and the place after its digits.
-#[derive(Drop)]
+#[derive(Clone, Copy)]
 pub struct Digits {
     pub value: u64,
     pub next: usize,

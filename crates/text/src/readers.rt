@@ -13,7 +13,7 @@ const LARGEST_NUMBER: u64 = LARGEST_WEIGHT;
 
 const LARGEST_EXPONENT: u64 = Pattern::LARGEST_DEGREE;
 
-#[derive(Drop)]
+#[derive(Clone, Copy)]
 pub enum Read {
     // The place after what was read, and the number of nodes then: the last of them is the own node of what was read.
     At(usize, usize),
