@@ -1,0 +1,9 @@
+-- `read_number` meets its contract: the loop keeps `Reads`, and each way out of it is a step of `read_groups`.
+use Rattle.numbers.proofs.ReadNumber.{Reads}
+use Rattle.numbers.proofs.read_number.Given as goal
+
+abbrev pub invariant-loop-place : goal.invariant-loop-place
+invariant-loop-place l = Reads l.bytes l.at l.place l.more l.low l.unit
+
+abbrev pub decreases-loop-place : goal.decreases-loop-place
+decreases-loop-place l = l.more
