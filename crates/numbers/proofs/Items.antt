@@ -3,16 +3,11 @@ use mathlib.Core.Path.{◌≡◌, refl, sym, ◌∙◌, ap, subst}
 use mathlib.Core.Bool.{Bool, true, false}
 use Prim.Native.Nat.{ℕ, ◌≤◌}
 use native.Mathlib.Omega.{arith}
-use mathlib.Core.List.{[], ◌∷◌}
-use mathlib.Core.Logic.{inl, inr}
-use types.Run.{OneOf}
-use denote.Enum.Declared.{tag_of}
 use lib.Dec.{T}
 use Rattle.numbers.specs.Item.{Item, Item.got, Item.stopped, and_then, provided, mapped, renamed, Fault, Fault.cut, Fault.bad}
 use Rattle.numbers.specs.Inside.Read.{item_of}
 use Rattle.numbers.specs.declared.Read.{Read}
 use Rattle.numbers.specs.declared.Read.TheVariants.{Value, Cut, Bad}
-use Rattle.numbers.specs.contracts.Read.{the_type}
 
 -- nothing is both
 pub never : {F A : Type 0} {what : F} {place next : ℕ} {a : A} → stopped what place ≡ got a next → ⊥
@@ -212,25 +207,17 @@ alike-shown f both = refl
 
 -- ---- What the code answers.
 
-no_value : (r : Read) → OneOf (1 ∷ 2 ∷ []) (tag_of the_type r) → (v next : ℕ) → item_of r ≡ got v next → ⊥
-no_value (Value x y) (inl k) v next e = omega arith
-no_value (Value x y) (inr k) v next e = omega arith
+-- an answer that is no value
+abbrev pub NoValue : Read → Type 0
+NoValue r = (v next : ℕ) → r ≡ Value v next → ⊥
+
+no_value : (r : Read) → NoValue r → (v next : ℕ) → item_of r ≡ got v next → ⊥
+no_value (Value x y) k v next e = k x y refl
 no_value (Cut place) k v next e = let z : ◌≡◌ {A = ℕ} 0 1 = cc in omega arith
 no_value (Bad place) k v next e = let z : ◌≡◌ {A = ℕ} 0 1 = cc in omega arith
 
--- an answer that is a value, whose parts nobody asked for
-pub record IsValue (r : Read) : Type 0 where
-  pub value : ℕ
-  pub next : ℕ
-  pub is : r ≡ Value value next
-
-pub is-value : (r : Read) → OneOf (0 ∷ []) (tag_of the_type r) → IsValue r
-is-value (Value v next) k = record { value = v; next = next; is = refl }
-is-value (Cut place) k = absurd (omega arith)
-is-value (Bad place) k = absurd (omega arith)
-
 -- an answer that is no value has met the fault of what it answers
-pub stop-met : {A : Type 0} (r : Read) → OneOf (1 ∷ 2 ∷ []) (tag_of the_type r) → (h : A → ℕ) (y : Item Fault A) → item_of r ≡ mapped h y → Alike (item_of r) y
+pub stop-met : {A : Type 0} (r : Read) → NoValue r → (h : A → ℕ) (y : Item Fault A) → item_of r ≡ mapped h y → Alike (item_of r) y
 unfolding mapped
 stop-met r k h (got a next) e = absurd (no_value r k (h a) next e)
 stop-met r k h (stopped what place) e = rw e both
@@ -240,7 +227,7 @@ pub answered : {A : Type 0} {v next : ℕ} (r : Read) → r ≡ Value v next →
 answered r is h y e = came_from h y _ _ (sym e ∙ ap item_of is)
 
 -- the same of an answer that is shown as it was read
-pub number-stopped : (r : Read) → OneOf (1 ∷ 2 ∷ []) (tag_of the_type r) → (y : Item Fault ℕ) → item_of r ≡ y → Alike (item_of r) y
+pub number-stopped : (r : Read) → NoValue r → (y : Item Fault ℕ) → item_of r ≡ y → Alike (item_of r) y
 number-stopped r k y e = stop-met r k (λ n. n) y (e ∙ sym (mapped-id y))
 
 pub number-answered : {v next : ℕ} {y : Item Fault ℕ} (r : Read) → r ≡ Value v next → item_of r ≡ y → y ≡ got v next

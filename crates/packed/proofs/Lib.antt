@@ -19,9 +19,6 @@ pub mod Inverse
 pub mod Refusing
 pub mod Working
 pub mod Results
-pub mod ReaderForms
-pub mod TakenApart
-pub mod PassedOn
 pub mod Unique
 pub mod CaseBytes
 pub mod Cases

@@ -22,7 +22,7 @@ use Rattle.answers.specs.Answers.{Told, Told.done, Told.refused, told, outcome}
 use Rattle.answers.specs.Areas.{written}
 use Rattle.answers.specs.Judge.{Judged, Judged.good, Judged.fails, and_then}
 use Rattle.answers.specs.declared.Answer.{Answer}
-use Rattle.answers.specs.contracts.Answer.{the_type}
+use Rattle.answers.proofs.Refusing.{NotDone}
 use Rattle.answers.proofs.Judging.{then-good, then-fails}
 use Rattle.answers.proofs.Writes.{written-front}
 use Rattle.numbers.specs.Item.{Item, Item.got, Item.stopped, mapped, Fault, Fault.cut, Fault.bad}
@@ -95,7 +95,7 @@ handed {bytes} {x} {t} a says = go (read_whole variables bytes) refl a says
     go (stopped cut place) read both says = record { place = place; says = says; fault = is_cut read }
     go (stopped bad place) read both says = record { place = place; says = says; fault = is_bad read }
 
-pub count-refused : (bytes : List ℕ) (r : Read) → OneOf (1 ∷ 2 ∷ []) (tag_of read-type r) → item_of r ≡ read_count bytes 0 → {t : Told} → t ≡ fault SUM (item_of r) → Handed bytes t
+pub count-refused : (bytes : List ℕ) (r : Read) → NoValue r → item_of r ≡ read_count bytes 0 → {t : Told} → t ≡ fault SUM (item_of r) → Handed bytes t
 count-refused bytes r keys e says = handed (subst (Alike (item_of r)) (sym (whole_split variables bytes)) (alike_then _ (number-stopped r keys (read_count bytes 0) e))) says
 
 -- the sum that two arrays hold
@@ -108,14 +108,14 @@ pub record Whole (bytes ws : List ℕ) (cs : List ℤ) (ws' : List ℕ) (cs' : L
 
 module _ (bytes : List ℕ) {count next : ℕ} (counted : read_count bytes 0 ≡ got count next) (ws : List ℕ) (cs : List ℤ) {ws' : List ℕ} {cs' : List ℤ} (r : Answer)
     (e : outcome (told r) (ws', cs') ≡ whole_into count (judged SUM (read_rest variables count bytes next)) ws cs) where
-  pub rest-refused : OneOf (1 ∷ []) (tag_of the_type r) → Handed bytes (told r)
+  pub rest-refused : NotDone r → Handed bytes (told r)
   rest-refused key =
       let stop = whole-refused count bytes next ws cs r key e in
       handed (subst (Alike stop.0) (sym (whole-rest variables bytes counted)) stop.1) stop.2
 
-  pub rest-taken : ((i : ℕ) → get_or bytes i 0 < 256) → OneOf (0 ∷ []) (tag_of the_type r) → Whole bytes ws cs ws' cs' count
+  pub rest-taken : ((i : ℕ) → get_or bytes i 0 < 256) → {n : ℕ} → r ≡ Done n → Whole bytes ws cs ws' cs' count
   rest-taken byte key =
-      let all = whole-done count bytes next ws cs r (is_done r key).is e in
+      let all = whole-done count bytes next ws cs r key e in
       let t = all.2 in
       let w = whole-written bytes byte variables t.sum all.0 (whole-rest variables bytes counted ∙ t.read) in
       record { sum = t.sum; of_bytes = record { accepted = w.1; bytes_are = w.0 }; many = t.many; words_are = t.words_are; coefficients_are = t.coefficients_are }
@@ -128,7 +128,7 @@ counted (got s next) ws cs = refl
 counted (stopped what place) ws cs = refl
 
 module _ (r : Read) (item : Item Fault Sum) (ws : List ℕ) (cs : List ℤ) {ws' : List ℕ} {cs' : List ℤ} (e : (item_of r, ws', cs') ≡ read_into item ws cs) where
-  pub into-stopped : OneOf (1 ∷ 2 ∷ []) (tag_of read-type r) → Alike (item_of r) item
+  pub into-stopped : NoValue r → Alike (item_of r) item
   into-stopped keys = stop-met r keys length item (ap (λ x. x.0) e ∙ counted item ws cs)
 
   pub into-read : {count end : ℕ} → r ≡ Value count end → ReadAt item ws cs ws' cs' count end

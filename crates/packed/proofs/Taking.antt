@@ -116,7 +116,7 @@ counted count (got s next) ws cs = refl
 counted count (stopped what place) ws cs = refl
 
 module _ (r : Read) (count : ℕ) (item : Item Fault Sum) (ws : List ℕ) (cs : List ℤ) {ws' : List ℕ} {cs' : List ℤ} (e : (item_of r, ws', cs') ≡ taken_into count item ws cs) where
-  pub taken-stopped : OneOf (1 ∷ 2 ∷ []) (tag_of the_type r) → Alike (item_of r) item
+  pub taken-stopped : NoValue r → Alike (item_of r) item
   taken-stopped keys = stop-met r keys length item (ap (λ x. x.0) e ∙ counted count item ws cs)
 
   pub taken-read : {n end : ℕ} → r ≡ Value n end → ReadAt item ws cs ws' cs' n end

@@ -18,7 +18,7 @@ use Rattle.answers.specs.Answers.{Told, Told.done, Told.refused, told, outcome}
 use Rattle.answers.specs.Areas.{written, cleared}
 use Rattle.answers.specs.declared.Answer.{Answer}
 use Rattle.answers.specs.declared.Answer.TheVariants.{Done, Refused}
-use Rattle.answers.specs.contracts.Answer.{the_type}
+use Rattle.answers.proofs.Refusing.{NotDone}
 use Rattle.answers.proofs.Judging.{refused-done, done-same}
 use Rattle.answers.proofs.Writes.{written-front, written_over}
 use Rattle.numbers.specs.Item.{Item, Item.got, Item.stopped, Fault, Fault.cut, Fault.bad}
@@ -120,15 +120,6 @@ whole-good {count} {s} {at} {end} {ws₀} {cs₀} t after h = whole-read count s
 
 -- ---- What a caller of `take_whole` knows.
 
--- an answer that is done, whose number nobody asked for
-pub record IsDone (r : Answer) : Type 0 where
-  pub number_done : ℕ
-  pub is : r ≡ Done number_done
-
-pub is_done : (r : Answer) → OneOf (0 ∷ []) (tag_of the_type r) → IsDone r
-is_done (Done n) k = record { number_done = n; is = refl }
-is_done (Refused refusal p) k = absurd (omega arith)
-
 module _ (count : ℕ) (s : List ℕ) (at : ℕ) (ws : List ℕ) (cs : List ℤ) {ws' : List ℕ} {cs' : List ℤ} where
   -- the sum that was read
   pub whole-done : (r : Answer) {n : ℕ} → r ≡ Done n → outcome (told r) (ws', cs') ≡ whole_into count (judged SUM (read_rest variables count s at)) ws cs
@@ -145,10 +136,10 @@ module _ (count : ℕ) (s : List ℕ) (at : ℕ) (ws : List ℕ) (cs : List ℤ)
       go (stopped what place) read f = absurd (refused-done (ap (λ o. o.answer) (sym f)))
 
   -- the fault that was met
-  pub whole-refused : (r : Answer) → OneOf (1 ∷ []) (tag_of the_type r) → outcome (told r) (ws', cs') ≡ whole_into count (judged SUM (read_rest variables count s at)) ws cs
+  pub whole-refused : (r : Answer) → NotDone r → outcome (told r) (ws', cs') ≡ whole_into count (judged SUM (read_rest variables count s at)) ws cs
       → (x : Item Fault ℕ) × (Alike x (read_rest variables count s at)) × (told r ≡ fault SUM x)
   unfolding whole_into
-  whole-refused (Done n) key e = absurd (omega arith)
+  whole-refused (Done n) key e = absurd (key n refl)
   whole-refused (Refused refusal p) key e = go (read_rest variables count s at) e
     where
       go : (item : Item Fault Sum) → outcome (refused (number refusal) p) (ws', cs') ≡ whole_into count (judged SUM item) ws cs
@@ -164,19 +155,18 @@ both-refuse ws cs both = refl
 
 module _ (count : ℕ) (s : List ℕ) (at : ℕ) (ws : List ℕ) (cs : List ℤ) {ws' : List ℕ} {cs' : List ℤ} (r : Answer)
     (e : outcome (told r) (ws', cs') ≡ whole_into count (judged SUM (read_rest variables count s at)) ws cs) (area : List ℕ) (area-cs : List ℤ) where
-  pub areas-stay : OneOf (1 ∷ []) (tag_of the_type r) → outcome (told r) (area, area-cs) ≡ held_into (judged SUM (read_rest variables count s at)) area area-cs
+  pub areas-stay : NotDone r → outcome (told r) (area, area-cs) ≡ held_into (judged SUM (read_rest variables count s at)) area area-cs
   areas-stay key =
       let stop = whole-refused count s at ws cs r key e in
       ap (λ (t : Told). outcome t (area, area-cs)) stop.2 ∙ both-refuse area area-cs stop.1
 
-  pub areas-hold : OneOf (0 ∷ []) (tag_of the_type r) → {area' : List ℕ} {area-cs' : List ℤ} → area' ≡ written (take count ws') area → area-cs' ≡ written (take count cs') area-cs
+  pub areas-hold : {n : ℕ} → r ≡ Done n → {area' : List ℕ} {area-cs' : List ℤ} → area' ≡ written (take count ws') area → area-cs' ≡ written (take count cs') area-cs
       → outcome (told r) (area', area-cs') ≡ held_into (judged SUM (read_rest variables count s at)) area area-cs
   unfolding held_into
   areas-hold key words_are coefficients_are =
-      let d = is_done r key in
-      let whole = whole-done count s at ws cs r d.is e in
+      let whole = whole-done count s at ws cs r key e in
       let t = whole.2 in
-      let says : told r ≡ done (length t.sum) = ap told d.is ∙ ap done (whole.1 ∙ sym t.many) in
+      let says : told r ≡ done (length t.sum) = ap told key ∙ ap done (whole.1 ∙ sym t.many) in
       let words = words_are ∙ ap (λ l. written l area) (words-first t t.many).0 in
       let coefficients = coefficients_are ∙ ap (λ l. written l area-cs) (coefficients-first t t.many).0 in
       (λ i. outcome (says i) (words i, coefficients i)) ∙ ap (λ item. held_into (judged SUM item) area area-cs) (sym t.read)

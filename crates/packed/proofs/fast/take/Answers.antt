@@ -1,0 +1,7 @@
+-- `take` meets its contract: good terms were taken, or what is read item by item forgets them.
+use mathlib.Core.Path.{◌∙◌}
+use Rattle.packed.proofs.Taking.{taken-again}
+use Rattle.packed.proofs.fast.take.Goals as goal
+
+pub returns-then-end-eq0 : goal.returns-then-end-eq0
+returns-then-end-eq0 c = c.take_each.ensures ∙ taken-again c.take_good-end.ensures

@@ -1,0 +1,12 @@
+-- `fits` meets its contract: so few terms have no larger spread, and otherwise it is counted.
+use mathlib.Core.Path.{sym}
+use native.Mathlib.Omega.{arith}
+use borrow.Author.Tests.{le-leb}
+use Rattle.algebra.specs.Limits.{most_terms}
+use Rattle.algebra.specs.Arithmetic.{sum_spread}
+use Rattle.algebra.specs.Word.{terms}
+use Rattle.sums.proofs.Counts.{spread-below}
+use Rattle.sums.proofs.adding.fits.Goals as goal
+
+pub returns-then-sp-tp-le-MOST_TERMS : goal.returns-then-sp-tp-le-MOST_TERMS
+returns-then-sp-tp-le-MOST_TERMS c = sym (le-leb (sum_spread (terms c.args.sp.now c.args.sc.now) (terms c.args.tp.now c.args.tc.now)) most_terms (omega (arith, spread-below c.requires.held c.requires.held_2, c.if-sp-tp-le-MOST_TERMS.true)))
