@@ -4,7 +4,7 @@ use Rattle.packed.proofs.TakeSum.{count-stops, count-over, count-taken}
 use Rattle.packed.proofs.read_count.Goals as goal
 
 pub returns-in_default : goal.returns-in_default
-returns-in_default c = let h = c.in_default in ?
+returns-in_default c = count-stops _ _ (number-stopped c.read_item-item.result c.in_default.not-Value _ c.read_item-item.ensures)
 
 pub returns-then-count : goal.returns-then-count
 returns-then-count c = count-over _ _ (number-answered c.read_item-item.result c.in-Value.is c.read_item-item.ensures) c.if-count.true

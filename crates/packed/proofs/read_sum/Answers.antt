@@ -21,7 +21,7 @@ counted d = number-answered d.read_count-first.result d.in-Value.is d.read_count
 
 -- the terms that the arrays hold
 value : (d : In-Value-item) → IsValue d.take-item.result
-value d = is-value _ d.in-Value-item-own.keys1
+value d = is-value _ d.in-Value-item.is
 
 held : (d : In-Value-item)
     → ReadAt (read_terms variables d.in-Value.count [] d.args.bytes.now d.in-Value.next) (replicate most_terms 0) (replicate most_terms (pos 0)) d.take-item.new.patterns d.take-item.new.coefficients
@@ -29,7 +29,7 @@ held : (d : In-Value-item)
 held d = taken-read d.take-item.result _ _ (replicate most_terms 0) (replicate most_terms (pos 0)) d.take-item.ensures (value d).is
 
 pub returns-in_default : goal.returns-in_default
-returns-in_default c = into-stops _ _ (count-faulty _ _ (number-stopped c.read_count-first.result c.in_default-own.keys2 _ c.read_count-first.ensures))
+returns-in_default c = into-stops _ _ (count-faulty _ _ (number-stopped c.read_count-first.result c.in_default.not-Value _ c.read_count-first.ensures))
 
 pub take-item-requires-clause-count_in_bounds : goal.take-item-requires-clause-count_in_bounds
 take-item-requires-clause-count_in_bounds c = let few = count-few _ _ (counted (goal.at.take-item-requires-clause-count_in_bounds c).In-Value) in omega arith
@@ -38,7 +38,7 @@ pub take-item-requires-clause-count_in_bounds_2 : goal.take-item-requires-clause
 take-item-requires-clause-count_in_bounds_2 c = let few = count-few _ _ (counted (goal.at.take-item-requires-clause-count_in_bounds_2 c).In-Value) in omega arith
 
 pub returns-in_default-item : goal.returns-in_default-item
-returns-in_default-item c = into-stops _ _ (terms-faulty _ _ (counted (goal.at.returns-in_default-item c).In-Value) (taken-stopped c.take-item.result _ _ (replicate most_terms 0) (replicate most_terms (pos 0)) c.take-item.ensures c.in_default-item-own.keys2))
+returns-in_default-item c = into-stops _ _ (terms-faulty _ _ (counted (goal.at.returns-in_default-item c).In-Value) (taken-stopped c.take-item.result _ _ (replicate most_terms 0) (replicate most_terms (pos 0)) c.take-item.ensures c.in_default-item.not-Value))
 
 pub copy_words-requires-clause-count_in_bounds : goal.copy_words-requires-clause-count_in_bounds
 copy_words-requires-clause-count_in_bounds c = omega (arith, count-few _ _ (counted (goal.at.copy_words-requires-clause-count_in_bounds c).In-Value), c.requires.most_terms_in_bounds)

@@ -11,7 +11,7 @@ returns-then-good-bytes c = whole-good c.take_good-good.ensures (omega (arith, c
 
 pub returns-in_default : goal.returns-in_default
 returns-in_default c = let e = c.take_each-item.ensures ∙ taken-again c.take_good-good.ensures in
-    let stop = taken-stopped c.take_each-item.result _ _ c.args.patterns.now c.args.coefficients.now e c.in_default-own.keys2 in
+    let stop = taken-stopped c.take_each-item.result _ _ c.args.patterns.now c.args.coefficients.now e c.in_default.not-Value in
     ap (λ (t : Told). outcome t (c.take_each-item.new.patterns, c.take_each-item.new.coefficients)) c.refused.ensures ∙ whole-stops _ _ _ (rest-stops _ _ _ stop) (taken-cleared _ _ _ stop e)
 
 pub returns-then-end-bytes : goal.returns-then-end-bytes

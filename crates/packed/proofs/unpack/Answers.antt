@@ -22,7 +22,7 @@ returns-then-coefficients-lt-MOST_TERMS c = few_coefficients _ _ _ c.if-patterns
 
 pub returns-in_default : goal.returns-in_default
 returns-in_default c = ap (λ (t : Told). outcome t (c.args.patterns.now, c.args.coefficients.now)) c.refused.ensures
-    ∙ unpack-stops _ _ _ c.if-patterns-lt-MOST_TERMS.false c.if-coefficients-lt-MOST_TERMS.false (number-stopped c.read_count-first.result c.in_default-own.keys2 _ c.read_count-first.ensures)
+    ∙ unpack-stops _ _ _ c.if-patterns-lt-MOST_TERMS.false c.if-coefficients-lt-MOST_TERMS.false (number-stopped c.read_count-first.result c.in_default.not-Value _ c.read_count-first.ensures)
 
 pub returns-then-n-le-FEW_TERMS : goal.returns-then-n-le-FEW_TERMS
 returns-then-n-le-FEW_TERMS c = c.unpack_terms.ensures ∙ unpack-rest _ _ _ c.if-patterns-lt-MOST_TERMS.false c.if-coefficients-lt-MOST_TERMS.false (counted (goal.at.returns-then-n-le-FEW_TERMS c).In-Value)

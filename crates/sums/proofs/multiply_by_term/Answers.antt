@@ -23,7 +23,7 @@ pub overflow_mul-value : goal.overflow_mul-value
 overflow_mul-value c = rw (read c) (value-fits c.loop-k.invariant.has c.loop-k.k c.loop-k-test.true)
 
 pub loop-k-preserved-then-value-eq0 : goal.loop-k-preserved-then-value-eq0
-loop-k-preserved-then-value-eq0 c = skips c.loop-k.invariant c.loop-k-test.true (rw (read (goal.at.loop-k-preserved-then-value-eq0 c).After-d-1) at (zero_bits _ (mul-value (goal.at.loop-k-preserved-then-value-eq0 c).After-d-1) c.if-value-eq0.true))
+loop-k-preserved-then-value-eq0 c = skips c.loop-k.invariant c.loop-k-test.true (rw (read (goal.at.loop-k-preserved-then-value-eq0 c).After-d-1) at (zero_bits _ (overflow_mul-value (goal.at.loop-k-preserved-then-value-eq0 c).After-d-1) c.if-value-eq0.true))
 
 pub product-pattern-requires-clause-valid_2 : goal.product-pattern-requires-clause-valid_2
 product-pattern-requires-clause-valid_2 c = (can-multiply c.loop-k.invariant.has c.loop-k.k c.loop-k-test.true).1.0
@@ -35,7 +35,7 @@ pub loop-k-preserved : goal.loop-k-preserved
 loop-k-preserved c = let factor = to_z w64 (of_z w64 c.args.c) in
     let value = get_or c.args.tc.now c.loop-k.k (pos 0) in
     takes c.loop-k.invariant c.loop-k-test.true (rw (read (goal.at.loop-k-preserved c).After-d-1) at (nonzero-bits (factor *ℤ to_z w64 (of_z w64 value)) c.if-value-eq0.false)) c.product-pattern.ensures
-    (to_z-of_z w64 _ (mul-value (goal.at.loop-k-preserved c).After-d-1) ∙ ap (λ z. factor *ℤ z) (read (goal.at.loop-k-preserved c).After-d-1))
+    (to_z-of_z w64 _ (overflow_mul-value (goal.at.loop-k-preserved c).After-d-1) ∙ ap (λ z. factor *ℤ z) (read (goal.at.loop-k-preserved c).After-d-1))
 
 pub returns : goal.returns
 returns c = rw (to_z-of_z w64 c.args.c c.ranges.c) at (ended c.loop-k.invariant c.loop-k-test.false)

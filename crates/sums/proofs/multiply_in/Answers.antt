@@ -50,7 +50,7 @@ add_pairs-formed-requires c = can-add c.requires.factors (first_ranks (goal.at.a
 
 pub returns-in_default : goal.returns-in_default
 unfolding first_ranks second_ranks
-returns-in_default c = stops c.requires.factors (first_ranks (goal.at.returns-in_default c).After-rank_words-2) (second_ranks (goal.at.returns-in_default c).After-rank_words-2) (first (goal.at.returns-in_default c).After-rank_words-2) (second (goal.at.returns-in_default c).After-rank_words-2) c.args.gr.now c.args.gc.now c.add_pairs-formed.result c.add_pairs-formed.new.ranks c.add_pairs-formed.ensures c.in_default-own.keys2 _ _
+returns-in_default c = stops c.requires.factors (first_ranks (goal.at.returns-in_default c).After-rank_words-2) (second_ranks (goal.at.returns-in_default c).After-rank_words-2) (first (goal.at.returns-in_default c).After-rank_words-2) (second (goal.at.returns-in_default c).After-rank_words-2) c.args.gr.now c.args.gc.now c.add_pairs-formed.result c.add_pairs-formed.new.ranks c.add_pairs-formed.ensures c.in_default.not-Terms _ _
 
 pub finish-requires-clause-held : goal.finish-requires-clause-held
 finish-requires-clause-held c = rw (sub-zero c, map-take word_at c ?UNKNOWN(After_add_pairs_arg3:add-pairs.new.0)) (placed-held (placed (goal.at.finish-requires-clause-held c).In-Terms))

@@ -21,7 +21,7 @@ multiply_in-formed-requires-clause-factors c = let all-lent = sub-zero c.loop-k.
     let row = length (take (c.loop-k.n - 0) c.loop-k.own-patterns) in record { first = c.loop-k.invariant.1.base; second = second; low = product-low c.loop-k.invariant.1 c.loop-k-test.true all-lent; light = product-light c.loop-k.invariant.1 c.loop-k-test.true all-lent }
 
 pub returns-in_default : goal.returns-in_default
-returns-in_default c = stops c.loop-k.invariant.1 c.loop-k-test.true (sub-zero c.loop-k.n) c.multiply_in-formed.result c.multiply_in-formed.ensures c.in_default-own.keys2 _ _
+returns-in_default c = stops c.loop-k.invariant.1 c.loop-k-test.true (sub-zero c.loop-k.n) c.multiply_in-formed.result c.multiply_in-formed.ensures c.in_default.not-Terms _ _
 
 pub loop-k-preserved : goal.loop-k-preserved
 loop-k-preserved c = (

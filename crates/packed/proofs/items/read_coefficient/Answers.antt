@@ -15,7 +15,7 @@ read : (d : In-Value)
 read d = number-answered d.read_item-item.result d.in-Value.is d.read_item-item.ensures
 
 pub returns-in_default : goal.returns-in_default
-returns-in_default c = coefficient-stopped _ _ _ (number-stopped c.read_item-item.result c.in_default-own.keys2 _ c.read_item-item.ensures)
+returns-in_default c = coefficient-stopped _ _ _ (number-stopped c.read_item-item.result c.in_default.not-Value _ c.read_item-item.ensures)
 
 pub returns-then-size-eq0 : goal.returns-then-size-eq0
 returns-then-size-eq0 c = let size = size_is _ (search rules) c.decode.ensures c.absolute-size.ensures in

@@ -8,7 +8,7 @@ pub loop-v-init : goal.loop-v-init
 loop-v-init c = start _ _ _ _ c.empty-pattern.ensures c.requires
 
 pub returns-in_default : goal.returns-in_default
-returns-in_default c = stops c.loop-v.invariant c.loop-v-test.true (number-stopped c.read_item-item.result c.in_default-own.keys2 _ c.read_item-item.ensures)
+returns-in_default c = stops c.loop-v.invariant c.loop-v-test.true (number-stopped c.read_item-item.result c.in_default.not-Value _ c.read_item-item.ensures)
 
 pub returns-then-e-degree : goal.returns-then-e-degree
 returns-then-e-degree c = let read = number-answered c.read_item-item.result c.in-Value.is c.read_item-item.ensures in

@@ -71,7 +71,7 @@ pub overflow_add-e : goal.overflow_add-e
 overflow_add-e c = subst (SFits w64) (sym (both c)) (both-fit c.loop-x.invariant c.loop-x-test.true (both-said (goal.at.overflow_add-e c).In-Same))
 
 pub loop-x-preserved-then-e-eq0 : goal.loop-x-preserved-then-e-eq0
-loop-x-preserved-then-e-eq0 c = steps-none c.loop-x.invariant c.loop-x-test.true (both-said (goal.at.loop-x-preserved-then-e-eq0 c).In-Same) (ap is_zero (sym (both (goal.at.loop-x-preserved-then-e-eq0 c).After-d-1)) ∙ zero_bits _ (add-e (goal.at.loop-x-preserved-then-e-eq0 c).After-d-1) c.if-e-eq0.true)
+loop-x-preserved-then-e-eq0 c = steps-none c.loop-x.invariant c.loop-x-test.true (both-said (goal.at.loop-x-preserved-then-e-eq0 c).In-Same) (ap is_zero (sym (both (goal.at.loop-x-preserved-then-e-eq0 c).After-d-1)) ∙ zero_bits _ (overflow_add-e (goal.at.loop-x-preserved-then-e-eq0 c).After-d-1) c.if-e-eq0.true)
 
 pub bounds-patterns-k-else-e-eq0 : goal.bounds-patterns-k-else-e-eq0
 bounds-patterns-k-else-e-eq0 c = omega (arith, may-both c.loop-x.invariant c.loop-x-test.true (both-said (goal.at.bounds-patterns-k-else-e-eq0 c).In-Same) (differ (goal.at.bounds-patterns-k-else-e-eq0 c).After-d-1 c.if-e-eq0.false), c.loop-x.invariant.words_room)
@@ -80,7 +80,7 @@ pub bounds-coefficients-k-else-e-eq0 : goal.bounds-coefficients-k-else-e-eq0
 bounds-coefficients-k-else-e-eq0 c = omega (arith, may-both c.loop-x.invariant c.loop-x-test.true (both-said (goal.at.bounds-coefficients-k-else-e-eq0 c).In-Same) (differ (goal.at.bounds-coefficients-k-else-e-eq0 c).After-d-1 c.if-e-eq0.false), c.loop-x.invariant.coefficients_room)
 
 pub loop-x-preserved-else-e-eq0 : goal.loop-x-preserved-else-e-eq0
-loop-x-preserved-else-e-eq0 c = steps-both c.loop-x.invariant c.loop-x-test.true (both-said (goal.at.loop-x-preserved-else-e-eq0 c).In-Same) (differ (goal.at.loop-x-preserved-else-e-eq0 c).After-d-1 c.if-e-eq0.false) (to_z-of_z w64 _ (add-e (goal.at.loop-x-preserved-else-e-eq0 c).After-d-1) ∙ both (goal.at.loop-x-preserved-else-e-eq0 c).After-d-1)
+loop-x-preserved-else-e-eq0 c = steps-both c.loop-x.invariant c.loop-x-test.true (both-said (goal.at.loop-x-preserved-else-e-eq0 c).In-Same) (differ (goal.at.loop-x-preserved-else-e-eq0 c).After-d-1 c.if-e-eq0.false) (to_z-of_z w64 _ (overflow_add-e (goal.at.loop-x-preserved-else-e-eq0 c).After-d-1) ∙ both (goal.at.loop-x-preserved-else-e-eq0 c).After-d-1)
 
 pub bounds-patterns-k-in-After : goal.bounds-patterns-k-in-After
 bounds-patterns-k-in-After c = omega (arith, (may-second c.loop-x.invariant c.loop-x-test.true (second-said (goal.at.bounds-patterns-k-in-After c).In-After)).1, c.loop-x.invariant.words_room)

@@ -24,16 +24,16 @@ pub loop-k-init : goal.loop-k-init
 loop-k-init c = start _ _ _ _ c.requires.n_in_bounds c.requires.coefficients_bound
 
 pub overflow_add-coefficients : goal.overflow_add-coefficients
-overflow_add-coefficients c = let x = to_z w64 c.loop-k.left in
+overflow_add-coefficients c = let x = to_z w64 c.loop-k.left-bits in
     let y = to_z w64 (of_z w64 (get_or c.loop-k.coefficients c.loop-k.k (pos 0))) in
     let light : nat_abs (x *ℤ pos 1 +ℤ y *ℤ pos 1) ≤ largest_weight = (both-light c.loop-k.invariant y (read c) c.loop-k-test.true).1 in
     fits-abs (x +ℤ y) (omega (arith, ap nat_abs (ap₂ ◌+ℤ◌ (*ℤ-oner x) (*ℤ-oner y)), light))
 
 pub loop-k-preserved : goal.loop-k-preserved
-loop-k-preserved c = let x = to_z w64 c.loop-k.left in
+loop-k-preserved c = let x = to_z w64 c.loop-k.left-bits in
     let y = to_z w64 (of_z w64 (get_or c.loop-k.coefficients c.loop-k.k (pos 0))) in
     let is : x +ℤ y ≡ x *ℤ pos 1 +ℤ y *ℤ pos 1 = sym (ap₂ ◌+ℤ◌ (*ℤ-oner x) (*ℤ-oner y)) in
-    again c.loop-k.invariant c.loop-k-test.true y _ (read c) (to_z-of_z w64 (x +ℤ y) (add-coefficients c) ∙ is)
+    again c.loop-k.invariant c.loop-k-test.true y _ (read c) (to_z-of_z w64 (x +ℤ y) (overflow_add-coefficients c) ∙ is)
 
 pub returns : goal.returns
 returns c = ended c.loop-k.invariant c.loop-k-test.false _ (sym (*ℤ-oner _))

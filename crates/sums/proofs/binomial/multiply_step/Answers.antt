@@ -30,14 +30,14 @@ pub overflow_mul-coefficients-in-loop-k : goal.overflow_mul-coefficients-in-loop
 overflow_mul-coefficients-in-loop-k c = fits-abs _ (omega (arith, (both-light c.loop-k.invariant _ (read c) c.loop-k-test.true).0))
 
 pub overflow_add-coefficients : goal.overflow_add-coefficients
-overflow_add-coefficients c = fits-abs _ (rw (to_z-of_z w64 _ (mul-coefficients c), to_z-of_z w64 _ (mul-coefficients-2 c)) (omega (arith, (both-light c.loop-k.invariant _ (read c) c.loop-k-test.true).1)))
+overflow_add-coefficients c = fits-abs _ (rw (to_z-of_z w64 _ (overflow_mul-coefficients c), to_z-of_z w64 _ (overflow_mul-coefficients-in-loop-k c)) (omega (arith, (both-light c.loop-k.invariant _ (read c) c.loop-k-test.true).1)))
 
 pub loop-k-preserved : goal.loop-k-preserved
-loop-k-preserved c = again c.loop-k.invariant c.loop-k-test.true _ _ (read c) (to_z-of_z w64 _ (add-coefficients c) ∙ ap₂ ◌+ℤ◌ (to_z-of_z w64 _ (mul-coefficients c)) (to_z-of_z w64 _ (mul-coefficients-2 c)))
+loop-k-preserved c = again c.loop-k.invariant c.loop-k-test.true _ _ (read c) (to_z-of_z w64 _ (overflow_add-coefficients c) ∙ ap₂ ◌+ℤ◌ (to_z-of_z w64 _ (overflow_mul-coefficients c)) (to_z-of_z w64 _ (overflow_mul-coefficients-in-loop-k c)))
 
 pub overflow_mul-coefficients-2 : goal.overflow_mul-coefficients-2
 overflow_mul-coefficients-2 c = fits-abs _ (omega (arith, left-light c.loop-k.invariant))
 
 pub returns : goal.returns
-returns c = ended c.loop-k.invariant c.loop-k-test.false _ (to_z-of_z w64 _ (mul-coefficients-3 c))
+returns c = ended c.loop-k.invariant c.loop-k-test.false _ (to_z-of_z w64 _ (overflow_mul-coefficients-2 c))
     ∙ ap₂ (λ x y. written (stepped x y (pos 0) (take c.args.n c.args.coefficients.now)) c.args.coefficients.now) (to_z-of_z w64 c.args.x c.ranges.x) (to_z-of_z w64 c.args.y c.ranges.y)

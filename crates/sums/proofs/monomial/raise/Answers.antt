@@ -24,7 +24,7 @@ pub loop-k-preserved : goal.loop-k-preserved
 loop-k-preserved c = record {
       base = c.loop-k.invariant.base;
       single = c.loop-k.invariant.single;
-      power_is = to_z-of_z w64 _ (mul_power c) ∙ ap₂ ◌*ℤ◌ c.loop-k.invariant.power_is (read (goal.at.loop-k-preserved c).After-c-1) ∙ next_power c.loop-k.invariant.base c.loop-k.invariant.single c.loop-k.k;
+      power_is = to_z-of_z w64 _ (overflow_mul-power c) ∙ ap₂ ◌*ℤ◌ c.loop-k.invariant.power_is (read (goal.at.loop-k-preserved c).After-c-1) ∙ next_power c.loop-k.invariant.base c.loop-k.invariant.single c.loop-k.k;
       some = omega (arith, c.loop-k.invariant.some);
       inside = omega (arith, c.loop-k-test.true);
     }

@@ -29,7 +29,7 @@ pub add_straight-product-requires : goal.add_straight-product-requires
 add_straight-product-requires c = can-form c.args.sr.now c.args.tr.now c.requires spare
 
 pub returns-in_default : goal.returns-in_default
-returns-in_default c = apart-over (first (goal.at.returns-in_default c).After-add_straight-product).args.sr.now (first (goal.at.returns-in_default c).After-add_straight-product).args.tr.now (first (goal.at.returns-in_default c).After-add_straight-product).requires spare c.add_straight-product.result c.add_straight-product.new.ranks c.add_straight-product.ensures c.in_default-own.keys2
+returns-in_default c = apart-over (first (goal.at.returns-in_default c).After-add_straight-product).args.sr.now (first (goal.at.returns-in_default c).After-add_straight-product).args.tr.now (first (goal.at.returns-in_default c).After-add_straight-product).requires spare c.add_straight-product.result c.add_straight-product.new.ranks c.add_straight-product.ensures c.in_default.not-Terms
 
 pub add_straight-requires-2 : goal.add_straight-requires-2
 add_straight-requires-2 c = can-join (stand (goal.at.add_straight-requires-2 c).In-Terms) (sub-zero _)

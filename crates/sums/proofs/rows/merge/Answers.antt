@@ -6,6 +6,7 @@ use mir.Syntax.{w64}
 use mir.Val.{SFits, of_z, to_z}
 use mir.ValLaws.{to_z-of_z}
 use Rattle.algebra.specs.Inside.Standing.{standing}
+use Rattle.sums.proofs.Standing.{there-is}
 use Rattle.sums.proofs.Moving.{left-valid, value-fits}
 use Rattle.sums.proofs.Ranking.{start, ended, next_fits, next-valid, new, sum_fits, known, passed}
 use Rattle.sums.proofs.rows.merge.Goals as goal
@@ -38,7 +39,7 @@ both : (d : After-e-1)
     let other = get_or d.loop-j.coefficients (d.loop-j.i - 1) (pos 0) in
     to_z w64 (of_z w64 (factor *ℤ to_z w64 (of_z w64 value))) +ℤ to_z w64 (of_z w64 other) ≡ factor *ℤ value +ℤ other
 both d =
-    ap₂ ◌+ℤ◌ (to_z-of_z w64 _ (mul-coefficients-2 d) ∙ ap (λ z. to_z w64 (of_z w64 d.args.c) *ℤ z) (read-2 d).0) (read-2 d).1
+    ap₂ ◌+ℤ◌ (to_z-of_z w64 _ (overflow_mul-coefficients-in-Same d) ∙ ap (λ z. to_z w64 (of_z w64 d.args.c) *ℤ z) (read-2 d).0) (read-2 d).1
 
 pub loop-j-init : goal.loop-j-init
 loop-j-init c = start (rw (to_z-of_z w64 c.args.c c.ranges.c) c.requires)
@@ -57,21 +58,27 @@ overflow_mul-coefficients c = rw (read c) (value-fits c.loop-j.invariant.words c
 
 pub loop-j-preserved-in-Before : goal.loop-j-preserved-in-Before
 loop-j-preserved-in-Before c = new c.loop-j.invariant c.loop-j-test.true (rank-small (goal.at.loop-j-preserved-in-Before c).After-shared_slice_known-in-loop-j-1) (factor-small (goal.at.loop-j-preserved-in-Before c).After-shared_slice_known-in-loop-j-1) (sym c.last_stands.ensures ∙ ap standing c.in-Before.is)
-    (to_z-of_z w64 _ (mul-coefficients c) ∙ ap (λ z. to_z w64 (of_z w64 c.args.c) *ℤ z) (read c))
+    (to_z-of_z w64 _ (overflow_mul-coefficients c) ∙ ap (λ z. to_z w64 (of_z w64 c.args.c) *ℤ z) (read c))
 
 pub overflow_mul-coefficients-in-Same : goal.overflow_mul-coefficients-in-Same
 overflow_mul-coefficients-in-Same c = rw (read-2 c).0 (value-fits c.loop-j.invariant.words c.loop-j-test.true)
 
 pub overflow_add-coefficients : goal.overflow_add-coefficients
-overflow_add-coefficients c = subst (SFits w64) (sym (both c)) (sum_fits c.loop-j.invariant c.loop-j-test.true (rank-small (goal.at.overflow_add-coefficients c).After-shared_slice_known-in-loop-j-1) (factor-small (goal.at.overflow_add-coefficients c).After-shared_slice_known-in-loop-j-1) (sub-i (goal.at.overflow_add-coefficients c).In-Same))
+overflow_add-coefficients c = subst (SFits w64) (sym (both c)) (sum_fits c.loop-j.invariant c.loop-j-test.true (rank-small (goal.at.overflow_add-coefficients c).After-shared_slice_known-in-loop-j-1) (factor-small (goal.at.overflow_add-coefficients c).After-shared_slice_known-in-loop-j-1) (overflow_sub-i (goal.at.overflow_add-coefficients c).In-Same))
 
 pub loop-j-preserved-in-Same : goal.loop-j-preserved-in-Same
-loop-j-preserved-in-Same c = known c.loop-j.invariant c.loop-j-test.true (rank-small (goal.at.loop-j-preserved-in-Same c).After-shared_slice_known-in-loop-j-1) (factor-small (goal.at.loop-j-preserved-in-Same c).After-shared_slice_known-in-loop-j-1) (sub-i (goal.at.loop-j-preserved-in-Same c).In-Same)
-    (sym c.last_stands.ensures ∙ ap standing c.in-Same.is) (to_z-of_z w64 _ (add-coefficients c) ∙ both c)
+loop-j-preserved-in-Same c = known c.loop-j.invariant c.loop-j-test.true (rank-small (goal.at.loop-j-preserved-in-Same c).After-shared_slice_known-in-loop-j-1) (factor-small (goal.at.loop-j-preserved-in-Same c).After-shared_slice_known-in-loop-j-1) (overflow_sub-i (goal.at.loop-j-preserved-in-Same c).In-Same)
+    (sym c.last_stands.ensures ∙ ap standing c.in-Same.is) (to_z-of_z w64 _ (overflow_add-coefficients c) ∙ both c)
 
 pub loop-j-preserved : goal.loop-j-preserved
-loop-j-preserved c = passed c.loop-j.invariant c.loop-j-test.true (rank-small (goal.at.loop-j-preserved c).After-shared_slice_known-in-loop-j-1) (factor-small (goal.at.loop-j-preserved c).After-shared_slice_known-in-loop-j-1) (sub-i-2 (goal.at.loop-j-preserved c).In-After)
+loop-j-preserved c = passed c.loop-j.invariant c.loop-j-test.true (rank-small (goal.at.loop-j-preserved c).After-shared_slice_known-in-loop-j-1) (factor-small (goal.at.loop-j-preserved c).After-shared_slice_known-in-loop-j-1) (overflow_sub-i-in-After (goal.at.loop-j-preserved c).In-After)
     (sym c.last_stands.ensures ∙ ap standing c.in-After.is) (to_z-of_z w64 _ (record { sfits = c.e-in-After-1.given }))
 
 pub returns : goal.returns
 returns c = rw (to_z-of_z w64 c.args.c c.ranges.c) at (ended c.loop-j.invariant c.loop-j-test.false)
+
+pub overflow_sub-i : goal.overflow_sub-i
+overflow_sub-i c = (there-is _ _ _ (sym c.last_stands.ensures ∙ ap standing c.in-Same.is) (λ h. h)).0
+
+pub overflow_sub-i-in-After : goal.overflow_sub-i-in-After
+overflow_sub-i-in-After c = (there-is _ _ _ (sym c.last_stands.ensures ∙ ap standing c.in-After.is) (λ h. h)).0
