@@ -16,9 +16,9 @@ loop-k-init c = let copied = front-copied c.requires.base.held (replicate most_t
 
 pub multiply_in-formed-requires-clause-factors : goal.multiply_in-formed-requires-clause-factors
 multiply_in-formed-requires-clause-factors c = let all-lent = sub-zero c.loop-k.n in
-    let second : Held (take (c.loop-k.n - 0) c.loop-k.own-patterns) (take (c.loop-k.n - 0) c.loop-k.own-coefficients) = rw all-lent (front-held c.loop-k.invariant.1.so_far) in
+    let second : Held (take (c.loop-k.n - 0) c.loop-k.own_patterns) (take (c.loop-k.n - 0) c.loop-k.own_coefficients) = rw all-lent (front-held c.loop-k.invariant.1.so_far) in
     let rows = length c.args.sp.now in
-    let row = length (take (c.loop-k.n - 0) c.loop-k.own-patterns) in record { first = c.loop-k.invariant.1.base; second = second; low = product-low c.loop-k.invariant.1 c.loop-k-test.true all-lent; light = product-light c.loop-k.invariant.1 c.loop-k-test.true all-lent }
+    let row = length (take (c.loop-k.n - 0) c.loop-k.own_patterns) in record { first = c.loop-k.invariant.1.base; second = second; low = product-low c.loop-k.invariant.1 c.loop-k-test.true all-lent; light = product-light c.loop-k.invariant.1 c.loop-k-test.true all-lent }
 
 pub returns-in_default : goal.returns-in_default
 returns-in_default c = stops c.loop-k.invariant.1 c.loop-k-test.true (sub-zero c.loop-k.n) c.multiply_in-formed.result c.multiply_in-formed.ensures c.in_default.not-Terms _ _
