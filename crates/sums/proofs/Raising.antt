@@ -1,6 +1,6 @@
 -- What the loop of `repeated` keeps: the k-th power stands in the arrays, and no spread on the way was above 128.
 use mathlib.Core.Path.{◌≡◌, refl, sym, ◌∙◌, ap}
-use mathlib.Core.List.{List, [], ◌∷◌}
+use mathlib.Core.List.{List}
 use Prim.Native.Nat.{ℕ, zero, suc, ◌+◌, ◌*◌, ◌-◌, ◌^◌, max, ◌≤◌, ◌<◌}
 use native.Mathlib.Omega.{arith}
 use native.Mathlib.Nat.{add-zero, le_refl, le_trans, le-max_left, le-max_right, max-le, mul-le-mul_left, mul-le-mul_right, pow-zero, pow-suc, pow-le-pow_right}

@@ -19,9 +19,9 @@ use Rattle.sums.proofs.rows.add_cleared.Goals.{Joined-formed, in-Terms, in-Over}
 known : (d : Joined-formed)
     → (d.match-formed.formed ≡ d.add_apart-formed.result) × (d.match-formed.all ≡ number_of (formed_of d.match-formed.formed))
 known d = elim d.match-formed.branch [
-      in-Terms w ↦ (w.formed-is ∙ sym w.in-Terms.is, w.all-is ∙ ap (λ r. number_of (formed_of r)) (sym w.formed-is))
-    | in-Over w ↦ (w.formed-is, w.all-is ∙ ap (λ r. number_of (formed_of r)) (sym (w.formed-is ∙ w.in-Over.is)))
-    ]
+  | in-Terms w ↦ (w.formed-is ∙ sym w.in-Terms.is, w.all-is ∙ ap (λ r. number_of (formed_of r)) (sym w.formed-is))
+  | in-Over w ↦ (w.formed-is, w.all-is ∙ ap (λ r. number_of (formed_of r)) (sym (w.formed-is ∙ w.in-Over.is)))
+]
 
 added : (d : Joined-formed)
     → Added (with_row (pairs (terms (words_at d.args.sr.now) d.args.sc.now) (terms (words_at d.args.tr.now) d.args.tc.now)) (first_terms d.args.n (words_at d.args.ranks.now) d.args.coefficients.now))

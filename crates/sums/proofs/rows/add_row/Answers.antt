@@ -29,7 +29,7 @@ by-ranks d =
     ranks-merge d.requires (replicate (most_terms + most_terms) 0) (ranked d) (replicate (most_terms + most_terms) (pos 0)) d.copy_coefficients.ensures (replicate most_terms 0) d.rank_words-2.ensures
     (sym (sub-zero _)) d.rank-rank.ensures (omega (arith, d.rank_words.auto)) (omega (arith, d.copy_coefficients.auto))
 
--- where the row was merged
+-- the merged row stands in the arrays
 stood : (d : After-merge_row-all)
     → Stands (joined d.args.c d.args.word d.args.tp.now d.args.tc.now d.args.n d.args.patterns.now d.args.coefficients.now) d.merge_row-all.result (words_at d.merge_row-all.new.ranks) d.merge_row-all.new.coefficients
 stood d =
