@@ -14,7 +14,6 @@ use Rattle.answers.specs.Answers.{Told, Told.done, Told.refused, told, outcome}
 use Rattle.answers.specs.Judge.{Judged, Judged.good, Judged.fails}
 use Rattle.answers.specs.declared.Answer as code
 use Rattle.answers.specs.declared.Answer.TheVariants.{Done, Refused}
-use Rattle.answers.specs.contracts.Answer as answer
 use Rattle.answers.proofs.Judging.{then-good, then-fails}
 use Rattle.packed.specs.Result.{packed_into}
 use Rattle.packed.proofs.Results.{Handed, sum-given, sum-refused}
@@ -24,7 +23,6 @@ use Rattle.change.specs.Substitute.{judge_pairs, judge_substitute}
 use Rattle.change.specs.Inside.Kept.{listed_of, list_fault, pairs_from, Kept, KeepsRead, CanApply, terms_told, HoldsGood}
 use Rattle.change.specs.declared.lists.Listed as list
 use Rattle.change.specs.declared.lists.Listed.TheVariants.{Pairs}
-use Rattle.change.specs.contracts.lists.Listed as list-answer
 use Rattle.change.proofs.ListBytes.{list_written}
 use Rattle.change.specs.Promised.{AllGood}
 use Rattle.numbers.proofs.Items.{Alike, Alike.both}
