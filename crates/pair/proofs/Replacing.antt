@@ -1,7 +1,7 @@
 -- What the loop of `put` keeps: the power k of the sum that is put stands in two arrays, and the rows of the powers up to k, gathered, in two others; no spread
 -- on the way was above 128.
 use mathlib.Core.Path.{◌≡◌, refl, sym, ◌∙◌, ap, ap₂}
-use mathlib.Core.List.{List, [], ◌∷◌, ◌++◌}
+use mathlib.Core.List.{List, ◌++◌}
 use Prim.Native.Nat.{ℕ, ◌+◌, ◌*◌, max, ◌≤◌, ◌<◌}
 use native.Mathlib.Omega.{arith}
 use native.Mathlib.Nat.{le_trans, le-max_left, le-max_right, max-le, mul-le-mul_right}
