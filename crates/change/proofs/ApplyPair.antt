@@ -1,6 +1,6 @@
 -- One pair, as the code applies it: its first check that fails is told, or what it makes of the sum stands in the first places of the two areas.
 use mathlib.Core.Path.{◌≡◌, ◌∙◌, ap}
-use mathlib.Core.List.{List, [], ◌∷◌}
+use mathlib.Core.List.{List}
 use Prim.Native.Nat.{ℕ, ◌≤◌}
 use lib.IntN.{ℤ}
 use Rattle.algebra.specs.Limits.{variables, largest_degree, largest_weight}
