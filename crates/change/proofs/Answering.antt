@@ -1,21 +1,19 @@
 -- What `substitute_list` answers, check by check: the fault of the sum, of the list or of a pair, or the packed result.
 use mathlib.Core.Path.{◌≡◌, refl, sym, ◌∙◌, ap, ap₂, subst}
-use mathlib.Core.List.{List, [], ◌∷◌}
+use mathlib.Core.List.{List}
 use Prim.Native.Nat.{ℕ, ◌≤◌, ◌<◌}
 use native.Mathlib.Omega.{arith}
-use types.Run.{OneOf}
-use denote.Enum.Declared.{tag_of}
 use lib.IntN.{ℤ}
 use lib.ListN.{length, get_or}
 use Rattle.algebra.specs.Limits.{variables, most_terms, work_places}
 use Rattle.algebra.specs.Sum.{Sum}
 use Rattle.algebra.specs.Held.{first_terms}
+use Rattle.answers.proofs.Refusing.{NotDone}
 use Rattle.answers.specs.Refusals.{number}
 use Rattle.answers.specs.Answers.{Told, Told.done, Told.refused, told, outcome}
 use Rattle.answers.specs.Judge.{Judged, Judged.good, Judged.fails}
 use Rattle.answers.specs.declared.Answer as code
 use Rattle.answers.specs.declared.Answer.TheVariants.{Done, Refused}
-use Rattle.answers.specs.contracts.Answer as answer
 use Rattle.answers.proofs.Judging.{then-good, then-fails}
 use Rattle.packed.specs.Result.{packed_into}
 use Rattle.packed.proofs.Results.{Handed, sum-given, sum-refused}
@@ -25,11 +23,10 @@ use Rattle.change.specs.Substitute.{judge_pairs, judge_substitute}
 use Rattle.change.specs.Inside.Kept.{listed_of, list_fault, pairs_from, Kept, KeepsRead, CanApply, terms_told, HoldsGood}
 use Rattle.change.specs.declared.lists.Listed as list
 use Rattle.change.specs.declared.lists.Listed.TheVariants.{Pairs}
-use Rattle.change.specs.contracts.lists.Listed as list-answer
 use Rattle.change.proofs.ListBytes.{list_written}
 use Rattle.change.specs.Promised.{AllGood}
 use Rattle.numbers.proofs.Items.{Alike, Alike.both}
-use Rattle.change.proofs.TakeList.{pairs-stopped, pairs-read}
+use Rattle.change.proofs.TakeList.{NoPairs, pairs-stopped, pairs-read}
 use Rattle.change.proofs.Passing.{judge-applied}
 use Rattle.change.proofs.Meaning.{applied-accepted}
 use Rattle.sums.proofs.First.{First, first_few, first-is, first-held}
@@ -83,7 +80,7 @@ module _ (bytes pairs area : List ℕ) where
   bad_sum h = ap (λ t. outcome t area) h.says ∙ sym (sum-refused bytes _ area h.fault)
 
   module _ {fp : List ℕ} {fc : List ℤ} {m : ℕ} (g : SumGiven bytes fp fc m) where
-    pub bad-list : (r : list.Listed) → OneOf (1 ∷ []) (tag_of list-answer.the_type r) → listed_of r ≡ mapped length (read_list variables pairs)
+    pub bad-list : (r : list.Listed) → NoPairs r → listed_of r ≡ mapped length (read_list variables pairs)
         → {t : Told} → t ≡ list_fault (listed_of r) → outcome t area ≡ packed_into (judge_substitute bytes pairs) area
     unfolding judge_substitute packed_into
     bad-list r key e h = go (listed_of r) (read_list variables pairs) refl (pairs-stopped r key (read_list variables pairs) e) h
@@ -107,10 +104,10 @@ module _ (bytes pairs area : List ℕ) where
           ap (λ j. packed_into j area) (sym e ∙ there)
           ∙ sym (sum-given bytes _ area g.of_bytes ∙ ap (λ j. packed_into j area) (then-good _ (ap list_judged l.read)))
 
-      pub bad-pair : (r : code.Answer) → OneOf (1 ∷ []) (tag_of answer.the_type r) → told r ≡ terms_told judged_there
+      pub bad-pair : (r : code.Answer) → NotDone r → told r ≡ terms_told judged_there
           → outcome (told r) area ≡ packed_into (judge_substitute bytes pairs) area
       unfolding packed_into
-      bad-pair (Done k) key e = absurd (omega arith)
+      bad-pair (Done k) key e = absurd (key k refl)
       bad-pair (Refused refusal place) key e = go judged_there e ∙ by-pairs refl
         where
           go : (j : Judged Sum) → refused (number refusal) place ≡ terms_told j → outcome (refused (number refusal) place) area ≡ packed_into j area

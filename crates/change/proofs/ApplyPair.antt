@@ -1,10 +1,8 @@
 -- One pair, as the code applies it: its first check that fails is told, or what it makes of the sum stands in the first places of the two areas.
 use mathlib.Core.Path.{◌≡◌, ◌∙◌, ap}
-use mathlib.Core.List.{List, [], ◌∷◌}
+use mathlib.Core.List.{List}
 use Prim.Native.Nat.{ℕ, ◌≤◌}
 use lib.IntN.{ℤ}
-use types.Run.{OneOf}
-use denote.Enum.Declared.{tag_of}
 use Rattle.algebra.specs.Limits.{variables, largest_degree, largest_weight}
 use Rattle.algebra.specs.Sum.{Sum}
 use Rattle.algebra.specs.Substitute.{substitute, pair_degree, pair_weight, pair_spread}
@@ -14,7 +12,7 @@ use Rattle.packed.specs.Result.{held_into}
 use Rattle.sums.specs.Formed.{formed_of, formed_into}
 use Rattle.sums.specs.declared.Formed as declared
 use Rattle.sums.specs.declared.Formed.TheVariants.{Terms}
-use Rattle.sums.specs.contracts.Formed.{the_type}
+use Rattle.sums.proofs.Refusing.{NoTerms}
 use Rattle.sums.proofs.Forming.{within-no}
 use Rattle.sums.proofs.Answering.{given, refused as refused-formed}
 use Rattle.pair.specs.Formed.{pair_of}
@@ -32,7 +30,7 @@ module _ (j v : ℕ) (S s : Sum) (ws : List ℕ) (cs : List ℤ) where
   -- degree and weight are allowed; what `put` answers, and the areas then
   module _ (low : pair_degree v S s ≤ largest_degree) (light : pair_weight v S s ≤ largest_weight) (r : declared.Formed) {ws' : List ℕ} {cs' : List ℤ}
       (told : (formed_of r, ws', cs') ≡ formed_into (pair_of v S s) ws cs) where
-    pub over : OneOf (1 ∷ []) (tag_of the_type r) → outcome (refused SPREAD j) (ws', cs') ≡ held_into (judge_pair j (pair v S) s) ws cs
+    pub over : NoTerms r → outcome (refused SPREAD j) (ws', cs') ≡ held_into (judge_pair j (pair v S) s) ws cs
     unfolding pair_of formed_into
     over key =
         let wide = (refused-formed (pair_spread variables v S s) (substitute variables v S s) ws cs ws' cs' r key told).1 in

@@ -1,6 +1,6 @@
 -- What the loop over the pairs keeps: what the pairs before made stands in the first places of the two areas, and the pairs from pair j on decide.
 use mathlib.Core.Path.{◌≡◌, refl, sym, ◌∙◌, ap, ap₂}
-use mathlib.Core.List.{List, [], ◌∷◌}
+use mathlib.Core.List.{List}
 use Prim.Native.Nat.{ℕ, suc, ◌+◌, ◌*◌, ◌-◌, ◌≤◌, ◌<◌}
 use native.Mathlib.Omega.{arith}
 use native.Mathlib.Nat.{sub-zero}
@@ -8,19 +8,17 @@ use native.Mathlib.Numerals.{add-one}
 use lib.IntN.{ℤ}
 use lib.ListN.{length, get_or, take, drop, length-map}
 use lib.Seq.{length-take-le}
-use types.Run.{OneOf}
-use denote.Enum.Declared.{tag_of}
 use Rattle.algebra.specs.Limits.{variables, most_terms, work_places}
 use Rattle.algebra.specs.Sum.{Sum}
 use Rattle.algebra.specs.Accepted.{Accepted}
 use Rattle.algebra.specs.Word.{terms}
 use Rattle.algebra.specs.Held.{words_of, coefficients_of, first_terms}
+use Rattle.answers.proofs.Refusing.{NotDone}
 use Rattle.answers.specs.Answers.{Told.done, told, outcome}
 use Rattle.answers.specs.Areas.{written}
 use Rattle.answers.specs.Judge.{Judged, Judged.good, and_then}
 use Rattle.answers.specs.declared.Answer.{Answer}
 use Rattle.answers.specs.declared.Answer.TheVariants.{Done}
-use Rattle.answers.specs.contracts.Answer.{the_type}
 use Rattle.answers.proofs.Judging.{then-good}
 use Rattle.answers.proofs.Writes.{written-front}
 use Rattle.packed.specs.Result.{held_into}
@@ -129,7 +127,7 @@ module _ {pairs : ℕ} {vs ns ws : List ℕ} {cs : List ℤ} {fp₀ : List ℕ} 
       answer : outcome (told r) (ps, ds) ≡ held_into (judge_pair j p s) next-patterns next-coefficients
       answer = rw (words-lent, coefficients-lent, sub-zero n) at tells
 
-      pub stops : OneOf (1 ∷ []) (tag_of the_type r) → Ensured (judged_all pairs vs ns ws cs n₀ fp₀ fc₀) fp fc (told r)
+      pub stops : NotDone r → Ensured (judged_all pairs vs ns ws cs n₀ fp₀ fc₀) fp fc (told r)
       stops key =
           rw (a.so_far ∙ judged-next pairs vs ns ws cs j h s)
           (refused-ensured (judge_pair j p s) (judged_from pairs vs ns ws cs (suc j)) next-patterns next-coefficients r key answer fp fc)

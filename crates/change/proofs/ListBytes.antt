@@ -6,8 +6,6 @@ use native.Mathlib.Omega.{arith}
 use native.Mathlib.Nat.{zero-add}
 use lib.Dec.{ltb, leb, ltb→lt, lt→ltb, leb→le, le→leb}
 use lib.ListN.{length, get_or, drop, length-append, drop_of_length-le}
-use Rattle.answers.specs.Promised.{Each}
-use Rattle.algebra.specs.Accepted.{Accepted}
 use Rattle.numbers.specs.Number.{number_bytes, read_number}
 use Rattle.numbers.proofs.Numbers.{number_read, number_cut}
 use Rattle.packed.specs.Packed.{packed}

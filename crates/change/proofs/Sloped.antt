@@ -1,19 +1,16 @@
 -- Slope, as its caller sees it: exactly when it is done, with which sum, and exactly when it is refused, and how.
 use mathlib.Core.Path.{◌≡◌, refl, sym, ◌∙◌, ap, subst}
 use mathlib.Core.List.{List}
-use Prim.Native.Nat.{ℕ, suc, ◌≤◌, ◌<◌}
+use Prim.Native.Nat.{ℕ, ◌≤◌, ◌<◌}
 use native.Mathlib.Omega.{arith}
 use native.Mathlib.Nat.{le_trans}
 use native.Mathlib.Decide.{dec_lt}
 use borrow.Author.Tests.{lt-ltb, le-ltb, le-leb, lt-leb}
-use lib.IntN.{pos, ◌*ℤ◌}
 use lib.ListN.{length, get_or}
 use Rattle.algebra.specs.Limits.{variables, most_terms, largest_weight}
-use Rattle.algebra.specs.Pattern.{Pattern, exponent, raised}
 use Rattle.algebra.specs.Sum.{Sum, weight}
 use Rattle.algebra.specs.Accepted.{Accepted}
 use Rattle.algebra.specs.Slope as algebra
-use Rattle.algebra.specs.Value.{coefficient}
 use Rattle.algebra.proofs.Sums.Slopes.{slope-coefficient, slope-ordered, slope-degree, slope-length}
 use Rattle.answers.specs.Refusals.{ROOM, WEIGHT, SPREAD, SUM, VARIABLE}
 use Rattle.answers.specs.Answers.{Told, Told.done, Told.refused, Outcome, outcome}

@@ -9,20 +9,18 @@ use lib.ListN.{length, get_or}
 use Rattle.algebra.specs.Limits.{variables, work_places}
 use Rattle.algebra.specs.Sum.{Sum}
 use Rattle.algebra.specs.Accepted.{Accepted}
-use Rattle.algebra.specs.Value.{value}
-use Rattle.answers.specs.Refusals.{ROOM, SUM}
+use Rattle.answers.specs.Refusals.{SUM}
 use Rattle.answers.specs.Answers.{Told, Told.done, Told.refused, Outcome, outcome}
 use Rattle.answers.specs.Areas.{written, cleared}
 use Rattle.answers.specs.Judge.{Judged}
 use Rattle.answers.proofs.Judging.{then-good, then-fails}
 use Rattle.packed.specs.Packed.{packed}
-use Rattle.packed.specs.ReadSum.{read_whole}
 use Rattle.packed.specs.Result.{WorkAreas, packed_into, beside}
 use Rattle.packed.proofs.Results.{fault-judged, sum-judged, Reading, Reading.a_sum, Reading.a_fault, reading}
-use Rattle.packed.specs.Promised.{PackedSum, AtFault, WorkRoom, cleared_with}
+use Rattle.packed.specs.Promised.{PackedSum, WorkRoom, cleared_with}
 use Rattle.packed.proofs.Working.{has_room, tested-room, tested-none, worked, with-room, without-room}
 use Rattle.numbers.specs.Item.{Item, Item.got, Item.stopped}
-use Rattle.change.specs.Pairs.{Pair, list_bytes, ListFault, read_list, refusal_of, list_judged}
+use Rattle.change.specs.Pairs.{Pair, list_bytes, ListFault, read_list, list_judged}
 use Rattle.change.specs.Substitute.{judge_pairs, judge_substitute, substitute}
 use Rattle.change.specs.Checks.{Applied}
 use Rattle.change.specs.Promised.{AllGood, Substituted, SubstituteRefuses, SubstituteRefuses.no_room, SubstituteRefuses.at_sum, SubstituteRefuses.at_list, SubstituteRefuses.at_pair}

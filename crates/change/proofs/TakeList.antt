@@ -1,10 +1,8 @@
 -- What `read_list` answers, check by check: the count, its pairs, and that nothing is left over.
-use mathlib.Core.Path.{◌≡◌, sym, ◌∙◌, ap}
-use mathlib.Core.List.{List, [], ◌∷◌}
+use mathlib.Core.Path.{◌≡◌, refl, sym, ◌∙◌, ap}
+use mathlib.Core.List.{List}
 use Prim.Native.Nat.{ℕ, ◌≤◌, ◌<◌}
 use native.Mathlib.Omega.{arith}
-use types.Run.{OneOf}
-use denote.Enum.Declared.{tag_of}
 use lib.Dec.{leb, leb→le, le→leb}
 use lib.ListN.{length}
 use Rattle.algebra.specs.Limits.{variables}
@@ -14,16 +12,19 @@ use Rattle.change.specs.Pairs.{Pair, ListFault, ListFault.item, read_pairs, read
 use Rattle.change.specs.Inside.Kept.{listed_of, item_fault}
 use Rattle.change.specs.declared.lists.Listed as code
 use Rattle.change.specs.declared.lists.Listed.TheVariants.{Pairs, Faulty}
-use Rattle.change.specs.contracts.lists.Listed.{the_type}
 use Rattle.numbers.proofs.Items.{then-got, provided-yes, renamed-got, From, came_from, Alike, Alike.both, alike_then, alike-provided}
 use Rattle.change.proofs.Reading.{item-stops}
 
 -- ---- What reading the pairs answered.
 
+-- an answer that is no pairs
+abbrev pub NoPairs : code.Listed → Type 0
+NoPairs r = (n end : ℕ) → r ≡ Pairs n end → ⊥
+
 -- no pairs: the fault that was met
-pub pairs-stopped : (r : code.Listed) → OneOf (1 ∷ []) (tag_of the_type r) → (read : Item ListFault (List Pair)) → listed_of r ≡ mapped length read → Alike (listed_of r) read
+pub pairs-stopped : (r : code.Listed) → NoPairs r → (read : Item ListFault (List Pair)) → listed_of r ≡ mapped length read → Alike (listed_of r) read
 unfolding mapped
-pairs-stopped (Pairs n end) key read e = absurd (omega arith)
+pairs-stopped (Pairs n end) key read e = absurd (key n end refl)
 pairs-stopped (Faulty what place) key (got ps end) e = let z : ◌≡◌ {A = ℕ} 0 1 = cc in absurd (omega arith)
 pairs-stopped (Faulty what place) key (stopped w p) e = rw e both
 

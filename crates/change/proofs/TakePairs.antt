@@ -18,7 +18,6 @@ use Rattle.packed.proofs.Taking.{ReadAt}
 use Rattle.sums.proofs.Parts.{span}
 use Rattle.change.specs.Pairs.{Pair, pair, ListFault, ListFault.item, ListFault.unknown, read_pairs}
 use Rattle.change.specs.Inside.Kept.{item_fault, pairs_from, Kept, KeepsRead}
-use Rattle.change.specs.declared.lists.Listed.TheVariants as answer
 use Rattle.numbers.proofs.Items.{never, then-got, provided-yes, mapped-got, mapped-mapped, From, carry, Alike, Alike.both, alike-provided, alike-mapped, alike-shown, renamed-got}
 use Rattle.change.proofs.Reading.{item-stops}
 use Rattle.change.proofs.Keeping.{pairs-many, stays_put, kept_next, pairs_next}

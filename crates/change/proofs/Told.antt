@@ -1,19 +1,16 @@
 -- What is told of a sum that was judged: it is good, and stands in the first places of two areas, or it is refused.
 use mathlib.Core.Path.{◌≡◌, refl, sym, ◌∙◌, ap}
-use mathlib.Core.List.{List, [], ◌∷◌}
+use mathlib.Core.List.{List}
 use Prim.Native.Nat.{ℕ}
-use native.Mathlib.Omega.{arith}
 use lib.IntN.{ℤ}
 use lib.ListN.{length, take, length-map}
-use types.Run.{OneOf}
-use denote.Enum.Declared.{tag_of}
 use Rattle.algebra.specs.Sum.{Sum}
 use Rattle.algebra.specs.Held.{words_of, coefficients_of}
+use Rattle.answers.proofs.Refusing.{NotDone}
 use Rattle.answers.specs.Answers.{Told, Told.done, told, outcome}
 use Rattle.answers.specs.Judge.{Judged, Judged.good, Judged.fails, and_then}
 use Rattle.answers.specs.declared.Answer.{Answer}
 use Rattle.answers.specs.declared.Answer.TheVariants.{Done, Refused}
-use Rattle.answers.specs.contracts.Answer.{the_type}
 use Rattle.answers.proofs.Judging.{good-fails, refused-done}
 use Rattle.answers.proofs.Writes.{written-front}
 use Rattle.packed.specs.Result.{held_into}
@@ -57,10 +54,10 @@ done-stands (good s) ws₀ cs₀ {n = n} r is e =
 
 -- what would have followed is not asked, and any areas will do
 pub refused-ensured : (judged : Judged Sum) (f : Sum → Judged Sum) {areas : List ℕ × List ℤ} (ws₀ : List ℕ) (cs₀ : List ℤ) (r : Answer)
-    → OneOf (1 ∷ []) (tag_of the_type r) → outcome (told r) areas ≡ held_into judged ws₀ cs₀
+    → NotDone r → outcome (told r) areas ≡ held_into judged ws₀ cs₀
     → (ws : List ℕ) (cs : List ℤ) → Ensured (and_then judged f) ws cs (told r)
 unfolding held_into and_then
-refused-ensured judged f ws₀ cs₀ (Done n) key e ws cs = absurd (omega arith)
+refused-ensured judged f ws₀ cs₀ (Done n) key e ws cs = absurd (key n refl)
 refused-ensured (good s) f ws₀ cs₀ (Refused what p) key e ws cs = absurd (refused-done (ap (λ o. o.answer) e))
 refused-ensured (fails refusal place) f ws₀ cs₀ (Refused what p) key e ws cs =
     (ap (λ o. o.answer) e, record { words_are = λ s g. absurd (good-fails (sym g)); coefficients_are = λ s g. absurd (good-fails (sym g)) })

@@ -1,10 +1,8 @@
 -- What `estimate_at` knows where it answers.
 use mathlib.Core.Path.{◌≡◌, refl, sym, ◌∙◌, ap, ap₂}
-use mathlib.Core.List.{List, [], ◌∷◌}
+use mathlib.Core.List.{List}
 use Prim.Native.Nat.{ℕ, ◌-◌, ◌≤◌, ◌<◌}
 use native.Mathlib.Omega.{arith}
-use types.Run.{OneOf}
-use denote.Enum.Declared.{tag_of}
 use lib.IntN.{ℤ}
 use lib.ListN.{length}
 use Rattle.algebra.specs.Limits.{largest_weight}
@@ -20,7 +18,6 @@ use Rattle.estimates.specs.Range.{judge_range}
 use Rattle.estimates.specs.Inside.Found.{found_of}
 use Rattle.estimates.specs.declared.Found.{Found}
 use Rattle.estimates.specs.declared.Found.TheVariants.{Within, Beyond}
-use Rattle.estimates.specs.contracts.Found.{the_type}
 use Rattle.estimates.proofs.JudgeTerms.{range-beyond, range-within}
 
 -- ---- What is kept of the sum.
@@ -50,6 +47,10 @@ module _ {s : Sum} {rs : List ℤ} (ts : List ℤ) {raised : List ℕ} {most pla
 
 -- ---- What was found.
 
-pub not_within : (f : Found) → OneOf (1 ∷ []) (tag_of the_type f) → found_of f ≡ fails RANGE 0
-not_within (Within e m) key = absurd (omega arith)
-not_within Beyond key = refl
+-- it is no estimate
+abbrev pub NotWithin : Found → Type 0
+NotWithin f = (e : ℤ) (m : ℕ) → f ≡ Within e m → ⊥
+
+pub not_within : (f : Found) → NotWithin f → found_of f ≡ fails RANGE 0
+not_within (Within e m) not = absurd (not e m refl)
+not_within Beyond not = refl

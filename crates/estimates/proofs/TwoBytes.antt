@@ -1,5 +1,5 @@
 -- The signed number of two bytes, as the machine computes it.
-use mathlib.Core.Path.{◌≡◌, refl, sym, ap, ◌∙◌}
+use mathlib.Core.Path.{◌≡◌, refl, sym, ◌∙◌}
 use mathlib.Core.Bool.{true, false}
 use mathlib.Core.List.{[], ◌∷◌}
 use Prim.Native.Nat.{ℕ, suc, ◌+◌, ◌*◌, ◌-◌, ◌≤◌, ◌<◌}
@@ -9,7 +9,7 @@ use lib.Dec.{ltb}
 use lib.Signed.{lt_z}
 use borrow.Author.Tests.{ltb-true, ltb-false}
 use mir.Syntax.{w64}
-use mir.Val.{SFits, of_z, to_z}
+use mir.Val.{SFits, to_z}
 use mir.ValLaws.{to_z-of_z, to_z_pos}
 use Rattle.answers.proofs.Signed.{fits-abs}
 use Rattle.numbers.proofs.Signs.{held}
@@ -49,7 +49,7 @@ module _ {low high : ℕ} (l : low < 256) (h : high < 256) where
   pub less-fits : SFits w64 less
   less-fits = rw less-is (fits-abs (negsuc (65536 - suc (low + 256 * high))) (omega arith))
 
-  -- ---- The high byte says the sign, and the number's bits say the number.
+  -- ---- The high byte says the sign, and what is held is the number.
 
   test-is : lt_z (to_z w64 high) (pos 128) ≡ ltb high 128
   test-is = rw (to_z_pos w64 high (omega arith))
@@ -58,12 +58,12 @@ module _ {low high : ℕ} (l : low < 256) (h : high < 256) where
   unfolding plain_number
   plain = omega arith
 
-  pub lower-half : {bits : ℕ} → lt_z (to_z w64 high) (pos 128) ≡ true → bits ≡ of_z w64 sum → to_z w64 bits ≡ signed_number (low ∷ high ∷ [])
+  pub lower-half : {z : ℤ} → lt_z (to_z w64 high) (pos 128) ≡ true → z ≡ held sum → z ≡ signed_number (low ∷ high ∷ [])
   lower-half test e =
       let half : high < 128 = ltb-true high 128 (sym test-is ∙ test) in
-      ap (to_z w64) e ∙ held-sum ∙ sym (lower (low ∷ high ∷ []) {all = 65536} plain refl (omega arith))
+      e ∙ held-sum ∙ sym (lower (low ∷ high ∷ []) {all = 65536} plain refl (omega arith))
 
-  pub upper-half : {bits : ℕ} → lt_z (to_z w64 high) (pos 128) ≡ false → bits ≡ of_z w64 less → to_z w64 bits ≡ signed_number (low ∷ high ∷ [])
+  pub upper-half : {z : ℤ} → lt_z (to_z w64 high) (pos 128) ≡ false → z ≡ held less → z ≡ signed_number (low ∷ high ∷ [])
   upper-half test e =
       let half : 128 ≤ high = ltb-false high 128 (sym test-is ∙ test) in
-      ap (to_z w64) e ∙ to_z-of_z w64 less less-fits ∙ less-is ∙ sym (upper (low ∷ high ∷ []) {all = 65536} plain refl (omega arith) (omega arith))
+      e ∙ to_z-of_z w64 less less-fits ∙ less-is ∙ sym (upper (low ∷ high ∷ []) {all = 65536} plain refl (omega arith) (omega arith))

@@ -1,6 +1,5 @@
 -- Each public function's contract leaves one outcome, as its caller sees it: the result, and what it finds in an area that it lent.
 use mathlib.Core.Path.{◌≡◌, refl, sym, ap, ◌∙◌}
-use lib.IntN.{pos}
 use Rattle.answers.specs.Judge.{Judged, Judged.good, Judged.fails}
 use Rattle.answers.proofs.Outcomes.{same}
 use Rattle.answers.specs.Promised.{One, OneLent}

@@ -4,8 +4,6 @@ use mathlib.Core.Bool.{true, false}
 use mathlib.Core.List.{List, [], ◌∷◌}
 use Prim.Native.Nat.{ℕ, suc, ◌+◌, ◌*◌, ◌-◌, ◌/◌, ◌≤◌}
 use native.Mathlib.Omega.{arith}
-use types.Run.{OneOf}
-use denote.Enum.Declared.{tag_of}
 use lib.IntN.{ℤ}
 use lib.ListN.{length, take}
 use lib.Seq.{sets}
@@ -14,11 +12,11 @@ use Rattle.algebra.specs.Limits.{variables, most_terms, work_places}
 use Rattle.algebra.specs.Word.{terms, EachValid}
 use Rattle.algebra.specs.Held.{first_terms}
 use Rattle.algebra.specs.Accepted.{Accepted}
+use Rattle.answers.proofs.Refusing.{NotDone}
 use Rattle.answers.specs.Refusals.{SHAPE, number}
 use Rattle.answers.specs.Answers.{Told.done, Told.refused, told, outcome}
 use Rattle.answers.specs.declared.Answer.{Answer}
 use Rattle.answers.specs.declared.Answer.TheVariants.{Done, Refused}
-use Rattle.answers.specs.contracts.Answer.{the_type}
 use Rattle.packed.specs.Packed.{packed, most_bytes}
 use Rattle.packed.specs.Result.{packed_into}
 use Rattle.packed.proofs.Results.{result_room, result-written}
@@ -51,9 +49,9 @@ module _ (table : List ℤ) (area : List ℕ) where
   refused-so (good es) refusal p e = let z : ◌≡◌ {A = ℕ} 0 1 = cc in absurd (omega arith)
   refused-so (fails r q) refusal p e = ap (λ t. outcome t area) e
 
-  pub node-refused : is_shape (length table) ≡ true → (r : Answer) → OneOf (1 ∷ []) (tag_of the_type r) → told r ≡ terms_told (judge_nodes [] table)
+  pub node-refused : is_shape (length table) ≡ true → (r : Answer) → NotDone r → told r ≡ terms_told (judge_nodes [] table)
       → outcome (told r) area ≡ packed_into (table_sum table) area
-  node-refused h (Done n) key e = absurd (omega arith)
+  node-refused h (Done n) key e = absurd (key n refl)
   node-refused h (Refused refusal p) key e = refused-so (judge_nodes [] table) (number refusal) p e ∙ by-nodes h refl
 
 -- ---- All nodes have passed, and the last one's sum stands in its part.

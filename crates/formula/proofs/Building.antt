@@ -5,8 +5,6 @@ use mathlib.Core.List.{List, [], ◌∷◌, ◌++◌, map, map-append, append-ni
 use Prim.Native.Nat.{ℕ, suc, ◌+◌, ◌*◌, ◌-◌, ◌/◌, ◌≤◌, ◌<◌}
 use native.Mathlib.Omega.{arith}
 use native.Mathlib.Numerals.{add-one}
-use types.Run.{OneOf}
-use denote.Enum.Declared.{tag_of}
 use lib.Dec.{T}
 use lib.IntN.{ℤ, pos}
 use lib.ListN.{length, get_or, take, drop, set, replicate, length-append, length-set, length-replicate, drop_of_length-le}
@@ -20,6 +18,7 @@ use Rattle.sums.specs.Formed.{formed_of}
 use Rattle.sums.specs.declared.Formed as declared
 use Rattle.sums.specs.declared.Formed.TheVariants.{Terms}
 use Rattle.sums.specs.contracts.Formed.{the_type}
+use Rattle.sums.proofs.Refusing.{NoTerms}
 use Rattle.sums.proofs.Answering.{given, refused as refused-formed}
 use Rattle.answers.specs.Judge.{Judged.good, Judged.fails}
 use Rattle.nodes.specs.declared.Kind as code
@@ -35,7 +34,6 @@ use Rattle.sums.specs.Part.{part}
 use Rattle.formula.specs.Simplify.{last_sum}
 use Rattle.nodes.specs.Inside.Work.{sums_at, Keeps, node_formed, FormedAt}
 use Rattle.formula.specs.Inside.Last.{terms_told, KeepsLast}
-use Rattle.nodes.specs.contracts.Found.{the_type as found_type}
 use Rattle.sums.proofs.Parts.{drop-further}
 use Rattle.nodes.proofs.Spelled.{read_numbers, Spells, read-says}
 use Rattle.formula.proofs.Sound.{AllSound, sum_of, degree-of, weight-of, sound-at, own-degree, own-weight}
@@ -59,8 +57,8 @@ numbers-next i table h =
     ∙ ap (λ l. get_or table (3 * i) (pos 0) ∷ get_or table (suc (3 * i)) (pos 0) ∷ l) (drop-cons table (suc (suc (3 * i))) (pos 0) (omega arith)))
 
 -- what the code found of them
-pub found-fault : (i : ℕ) (r : answer.Found) → OneOf (1 ∷ []) (tag_of found_type r) → found_of i r ≡ fails NODE i
-found-fault i (Good k) key = absurd (omega arith)
+pub found-fault : (i : ℕ) (r : answer.Found) → ((k : Kind) → r ≡ Good k → ⊥) → found_of i r ≡ fails NODE i
+found-fault i (Good k) key = absurd (key k refl)
 found-fault i Faulty key = refl
 
 -- ---- One node more, in a list with a number for each node; and the last sum.
@@ -272,7 +270,7 @@ module _ {table : List ℤ} {ws₀ : List ℕ} {cs₀ : List ℤ} {nodes : ℕ} 
     coefficients_after : drop work_places cs' ≡ drop work_places cs₀
     coefficients_after = drop-further (most_terms * suc i) work_places cs' cs further f.coefficients_after ∙ a.next.built.coefficients_stay
 
-    pub over : OneOf (1 ∷ []) (tag_of the_type r) → Ensured table ws₀ cs₀ ws' cs' (refused SPREAD i)
+    pub over : NoTerms r → Ensured table ws₀ cs₀ ws' cs' (refused SPREAD i)
     over key =
         let wide = (refused-formed spread sum (part i ws) (part i cs) (part i ws') (part i cs') r key f.in_part).1 in
         refuses a.next.built (kind-fault a.next (spread-fault k (is-next a.next) low-is light-is (rw sums-are at wide))) words_after coefficients_after

@@ -22,9 +22,9 @@ module _ (n : ℕ) where
   base-child a e t = (ltb→lt a n (and_l (ltb a n) (leb e largest_degree) t), leb→le e largest_degree (and_r (ltb a n) (leb e largest_degree) t))
 
 -- the same of the code's kinds
-module _ (n : ℕ) {k : Kind} (is_node : T (is_node n (kind_of k))) where
+module _ (n : ℕ) {k : Kind} (node : T (is_node n (kind_of k))) where
   at-kind : {other : Kind} → k ≡ other → T (is_node n (kind_of other))
-  at-kind e = subst (λ x. T (is_node n (kind_of x))) e is_node
+  at-kind e = subst (λ x. T (is_node n (kind_of x))) e node
 
   pub variable-small : {v : ℕ} → k ≡ Variable v → v < variables
   variable-small {v} e = ltb→lt v variables (at-kind e)

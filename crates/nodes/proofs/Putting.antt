@@ -1,6 +1,6 @@
 -- A sum, or a product with a node of one term: the operands are read where they stand, and what they give is formed in two arrays and put into the part of node i.
 use mathlib.Core.Path.{◌≡◌, refl, sym, ◌∙◌, ap, ap₂, subst}
-use mathlib.Core.List.{List, [], ◌∷◌, map}
+use mathlib.Core.List.{List, [], map}
 use Prim.Native.Nat.{ℕ, suc, ◌+◌, ◌*◌, ◌-◌, ◌≤◌, ◌<◌}
 use native.Mathlib.Omega.{arith}
 use native.Mathlib.Nat.{add-zero, add_comm, mul_comm}
@@ -9,8 +9,6 @@ use borrow.Rule.Slice.PartMut.{mid_of, put_mid}
 use lib.IntN.{ℤ, pos}
 use lib.ListN.{length, get_or, take, drop, length-map}
 use lib.Seq.{get_or-take, get_or-drop, length-take-le}
-use types.Run.{OneOf}
-use denote.Enum.Declared.{tag_of}
 use Rattle.algebra.specs.Limits.{most_terms}
 use Rattle.algebra.specs.Sum.{term, Sum, degree_of, weight}
 use Rattle.algebra.specs.Collect.{drop_zeros}
@@ -27,7 +25,7 @@ use Rattle.sums.specs.Asked.{RoomOf, Addends, Factors}
 use Rattle.sums.specs.Formed.{Formed, formed_of, Formed.formed, Formed.over, within, formed_into, sum_of, product_of}
 use Rattle.sums.specs.Rows.{HasTerm}
 use Rattle.sums.specs.Part.{part}
-use Rattle.sums.specs.contracts.Formed.{the_type}
+use Rattle.sums.proofs.Refusing.{NoTerms}
 use Rattle.sums.proofs.Forming.{within-yes, within-no}
 use Rattle.sums.proofs.Answering.{Known, given, refused}
 use Rattle.sums.proofs.ByTerm.{has-term, by_one}
@@ -197,7 +195,7 @@ module _ {i a b : ℕ} {ns : List ℕ} {ws : List ℕ} {cs : List ℤ} {ps : Lis
 
 module _ (i : ℕ) {f : Formed Sum} (ws : List ℕ) (cs : List ℤ) {ps : List ℕ} {ds : List ℤ} {ps' : List ℕ} {ds' : List ℤ} {answer : declared.Formed} (m : Made f ps ds ps' ds' answer) where
   -- a refusal leaves the areas
-  pub put-none : OneOf (1 ∷ []) (tag_of the_type answer) → FormedAt i f (formed_of answer) ws cs ws cs
+  pub put-none : NoTerms answer → FormedAt i f (formed_of answer) ws cs ws cs
   unfolding formed_into
   put-none other =
       let told = refused m.spread m.made ps ds ps' ds' answer other m.told in

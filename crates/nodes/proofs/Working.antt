@@ -19,7 +19,7 @@ use Rattle.answers.specs.Areas.{written}
 use Rattle.sums.specs.Asked.{Room}
 use Rattle.sums.specs.Formed.{Formed, Formed.formed, within, formed_into, sum_of, product_of, power_of}
 use Rattle.nodes.specs.declared.Kind as code
-use Rattle.nodes.specs.Node.{Kind, Kind.integer, Kind.variable, Kind.sum, Kind.product, Kind.power}
+use Rattle.nodes.specs.Node.{Kind.integer, Kind.variable, Kind.sum, Kind.product, Kind.power}
 use Rattle.nodes.specs.Inside.Code.{kind_of}
 use Rattle.nodes.specs.Formal.{formal_degree, formal_weight, node_spread, node_sum}
 use Rattle.sums.proofs.Holding.{terms-many, holdable}

@@ -9,7 +9,6 @@ use lib.Seq.{drop-cons, get_or-take, length-take-le}
 use Rattle.algebra.specs.Sum.{Term, term, Sum}
 use Rattle.algebra.specs.Word.{word, exponents, terms, Valid, EachValid}
 use Rattle.algebra.proofs.Patterns.Held.{held-length, held_at, held-words, held-coefficients}
-use Rattle.algebra.proofs.Patterns.Word.{exponents-length}
 use Rattle.algebra.specs.Held.{words_of, coefficients_of, first_terms}
 
 -- the term at a place

@@ -21,7 +21,7 @@ use Rattle.answers.specs.Answers.{Told.done, Outcome, outcome, check}
 use Rattle.answers.specs.Areas.{written}
 use Rattle.answers.proofs.Judging.{refused-done, done-same}
 use Rattle.answers.proofs.Writes.{written-front}
-use Rattle.numbers.specs.Item.{Item, Item.got, Item.stopped, Fault, Fault.cut, Fault.bad}
+use Rattle.numbers.specs.Item.{Item, Item.got, Item.stopped, Fault}
 use Rattle.packed.specs.Packed.{packed, most_bytes}
 use Rattle.algebra.specs.Accepted.{Accepted}
 use Rattle.packed.specs.ReadSum.{read_whole}

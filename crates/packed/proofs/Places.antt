@@ -19,7 +19,7 @@ use Rattle.numbers.specs.Code.{decode}
 use Rattle.numbers.proofs.Items.{end-place, place-then, place-mapped, place-provided, CutAt, fault-then, fault-mapped, fault-provided, fault-none, bad-cut}
 use Rattle.numbers.proofs.Numbers.{number-written, number_cut, number-bad, number-length, number-one, number-two}
 use Rattle.answers.specs.Refusals.{ROOM, SUM}
-use Rattle.answers.specs.Answers.{Told.done, Told.refused, outcome, check}
+use Rattle.answers.specs.Answers.{Told.refused, outcome, check}
 use Rattle.packed.specs.Whole.{judged}
 use Rattle.packed.specs.Result.{held_into}
 use Rattle.packed.specs.Unpack.{unpack}

@@ -2,7 +2,7 @@
 use mathlib.Core.Path.{◌≡◌, refl, sym, ◌∙◌, ap, subst}
 use mathlib.Core.Bool.{Bool, true, false, cond}
 use mathlib.Core.List.{List, [], ◌∷◌}
-use Prim.Native.Nat.{ℕ, suc, ◌≤◌, ◌<◌}
+use Prim.Native.Nat.{ℕ, suc, ◌<◌}
 use native.Mathlib.Omega.{arith}
 use native.Mathlib.Decide.{dec_lt}
 use lib.IntN.{ℤ}
@@ -11,7 +11,7 @@ use lib.Seq.{length-take-le}
 use Rattle.algebra.specs.Limits.{variables, most_terms}
 use Rattle.algebra.specs.Sum.{term, Sum}
 use Rattle.algebra.specs.Word.{exponents}
-use Rattle.answers.specs.Refusals.{ROOM, SHAPE, SUM}
+use Rattle.answers.specs.Refusals.{SUM}
 use Rattle.answers.specs.Answers.{Told, Told.done, Told.refused, Outcome, outcome}
 use Rattle.numbers.specs.Item.{Item, Item.got, Item.stopped, Fault, Fault.cut, Fault.bad}
 use Rattle.packed.specs.Packed.{most_bytes}
@@ -20,7 +20,7 @@ use Rattle.packed.specs.Whole.{judged}
 use Rattle.packed.specs.Result.{held_into}
 use Rattle.packed.specs.Unpack.{unpack}
 use Rattle.packed.specs.Pack.{is_good, good_terms, pack}
-use Rattle.packed.specs.Promised.{AtFault, AtFault.is_cut, AtFault.is_bad, UnpackRefuses, UnpackRefuses.few_words, UnpackRefuses.few_coefficients, UnpackRefuses.at_sum, PackFits, FirstBad, FirstBad.here, FirstBad.later, PackRefuses}
+use Rattle.packed.specs.Promised.{AtFault.is_cut, AtFault.is_bad, UnpackRefuses, UnpackRefuses.few_words, UnpackRefuses.few_coefficients, UnpackRefuses.at_sum, PackFits, FirstBad, FirstBad.here, FirstBad.later, PackRefuses}
 use Rattle.packed.proofs.Results.{fault-judged}
 use Rattle.packed.proofs.Unpacking as unpacking
 use Rattle.packed.proofs.Unpacking.{has_room}

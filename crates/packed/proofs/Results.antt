@@ -1,11 +1,9 @@
 -- What an operation knows that reads packed sums and answers with one: each sum, or its fault; and that the result is written.
 use mathlib.Core.Path.{◌≡◌, refl, sym, ◌∙◌, ap, ap₂, subst}
-use mathlib.Core.List.{List, [], ◌∷◌}
+use mathlib.Core.List.{List}
 use Prim.Native.Nat.{ℕ, ◌+◌, ◌≤◌, ◌<◌}
 use native.Mathlib.Omega.{arith}
 use native.Mathlib.Nat.{zero-add}
-use types.Run.{OneOf}
-use denote.Enum.Declared.{tag_of}
 use lib.IntN.{ℤ}
 use lib.ListN.{length, get_or, length-map}
 use lib.Seq.{sets, sets-eq}
@@ -22,6 +20,7 @@ use Rattle.answers.specs.Answers.{Told, Told.done, Told.refused, told, outcome}
 use Rattle.answers.specs.Areas.{written}
 use Rattle.answers.specs.Judge.{Judged, Judged.good, Judged.fails, and_then}
 use Rattle.answers.specs.declared.Answer.{Answer}
+use Rattle.answers.specs.declared.Answer.TheVariants.{Done}
 use Rattle.answers.proofs.Refusing.{NotDone}
 use Rattle.answers.proofs.Judging.{then-good, then-fails}
 use Rattle.answers.proofs.Writes.{written-front}
@@ -30,8 +29,7 @@ use Rattle.numbers.proofs.Items.{place_of}
 use Rattle.numbers.specs.Inside.Read.{item_of}
 use Rattle.numbers.specs.declared.Read.{Read}
 use Rattle.numbers.specs.declared.Read.TheVariants.{Value}
-use Rattle.numbers.specs.contracts.Read.{the_type as read-type}
-use Rattle.numbers.proofs.Items.{Alike, Alike.both, alike_then, stop-met, answered, number-stopped}
+use Rattle.numbers.proofs.Items.{NoValue, Alike, Alike.both, alike_then, stop-met, answered, number-stopped}
 use Rattle.packed.specs.Packed.{packed, most_bytes}
 use Rattle.packed.specs.ReadSum.{read_whole}
 use Rattle.packed.specs.Inside.Held.{read_into, read_count, read_rest, fault}
@@ -44,7 +42,7 @@ use Rattle.packed.proofs.Trip.{whole-read, whole-written}
 use Rattle.packed.proofs.Places.{place-small}
 use Rattle.packed.proofs.TakeSum.{whole_split, whole-rest}
 use Rattle.packed.proofs.Taking.{ReadAt}
-use Rattle.packed.proofs.Unpacking.{is_done, whole-refused, whole-done}
+use Rattle.packed.proofs.Unpacking.{whole-refused, whole-done}
 
 -- ---- The bytes that are given.
 
@@ -94,6 +92,7 @@ handed {bytes} {x} {t} a says = go (read_whole variables bytes) refl a says
     go : {x : Item Fault ℕ} (item : Item Fault Sum) → read_whole variables bytes ≡ item → Alike x item → t ≡ fault SUM x → Handed bytes t
     go (stopped cut place) read both says = record { place = place; says = says; fault = is_cut read }
     go (stopped bad place) read both says = record { place = place; says = says; fault = is_bad read }
+    go (got _ _) read x7 says = elim x7 [ ]
 
 pub count-refused : (bytes : List ℕ) (r : Read) → NoValue r → item_of r ≡ read_count bytes 0 → {t : Told} → t ≡ fault SUM (item_of r) → Handed bytes t
 count-refused bytes r keys e says = handed (subst (Alike (item_of r)) (sym (whole_split variables bytes)) (alike_then _ (number-stopped r keys (read_count bytes 0) e))) says

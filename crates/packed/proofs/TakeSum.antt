@@ -9,7 +9,7 @@ use lib.ListN.{length}
 use Rattle.algebra.specs.Limits.{most_terms}
 use Rattle.algebra.specs.Sum.{Term, Sum}
 use Rattle.algebra.proofs.Sums.Every.{Every, Long}
-use Rattle.numbers.specs.Item.{Item, Item.got, Item.stopped, and_then, provided, Fault, Fault.cut, Fault.bad}
+use Rattle.numbers.specs.Item.{Item, Item.got, Item.stopped, and_then, provided, Fault, Fault.bad}
 use Rattle.numbers.specs.Number.{read_number}
 use Rattle.numbers.proofs.Items.{then-got, then-then, provided-yes, provided-no, through, passed, came_from, got-value, carry, Alike, alike_then, alike_same}
 use Rattle.packed.specs.ReadSum.{read_term, read_terms, read_sum, read_whole}

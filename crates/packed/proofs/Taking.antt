@@ -3,8 +3,6 @@ use mathlib.Core.Path.{◌≡◌, refl, sym, ◌∙◌, ap, ap₂}
 use mathlib.Core.List.{List, [], ◌∷◌}
 use Prim.Native.Nat.{ℕ, ◌≤◌}
 use native.Mathlib.Omega.{arith}
-use types.Run.{OneOf}
-use denote.Enum.Declared.{tag_of}
 use lib.IntN.{ℤ, pos}
 use lib.ListN.{length, take, length-take, length-map, replicate, length-replicate}
 use lib.Seq.{length-take-le}
@@ -16,12 +14,11 @@ use Rattle.algebra.proofs.Patterns.Laws.{filled-all}
 use Rattle.algebra.proofs.Sums.Every.{Every, Long}
 use Rattle.answers.specs.Areas.{written, cleared}
 use Rattle.answers.proofs.Writes.{written_over}
-use Rattle.numbers.specs.Item.{Item, Item.got, Item.stopped, mapped, Fault, Fault.cut, Fault.bad}
+use Rattle.numbers.specs.Item.{Item, Item.got, Item.stopped, mapped, Fault}
 use Rattle.numbers.specs.Inside.Read.{item_of}
 use Rattle.numbers.specs.declared.Read.{Read}
 use Rattle.numbers.specs.declared.Read.TheVariants.{Value}
-use Rattle.numbers.specs.contracts.Read.{the_type}
-use Rattle.numbers.proofs.Items.{Alike, Alike.both, stop-met, answered}
+use Rattle.numbers.proofs.Items.{NoValue, Alike, Alike.both, stop-met, answered}
 use Rattle.packed.specs.ReadSum.{read_terms}
 use Rattle.packed.specs.Pack.{good_terms}
 use Rattle.packed.specs.Inside.Arrays.{words_for, Holds, taken_into, Copies, Takes}

@@ -1,6 +1,6 @@
 -- Unpacking reads items in order, and the first fault met ends the reading. A number at fault, and bytes that end too soon, are faults of
 -- the item's own reader (`read_number`); the others are judged here.
-use Rattle.std.specs.Prelude.{List, [], ◌∷◌, ℕ, zero, suc, ◌+◌, leb, ℤ, length}
+use Rattle.std.specs.Prelude.{List, [], ◌∷◌, ℕ, zero, suc, ◌+◌, leb, ℤ}
 use Rattle.algebra.specs.Limits.{largest_degree, most_terms}
 use Rattle.algebra.specs.Pattern.{Pattern}
 use Rattle.algebra.specs.Sum.{Term, term, Sum, weight}

@@ -1,12 +1,10 @@
 -- A sum that was formed in arrays of a function's own, and then copied to the two areas: it is formed into these.
 use mathlib.Core.Path.{◌≡◌, ◌∙◌}
-use mathlib.Core.List.{List, [], ◌∷◌}
+use mathlib.Core.List.{List}
 use Prim.Native.Nat.{ℕ, ◌≤◌}
 use native.Mathlib.Omega.{arith}
 use lib.IntN.{ℤ}
 use lib.ListN.{length, take, length-map}
-use types.Run.{OneOf}
-use denote.Enum.Declared.{tag_of}
 use Rattle.algebra.specs.Limits.{most_terms}
 use Rattle.algebra.specs.Sum.{Sum}
 use Rattle.algebra.specs.Held.{words_of, coefficients_of}
@@ -15,14 +13,14 @@ use Rattle.answers.proofs.Writes.{written-front}
 use Rattle.sums.specs.Formed.{formed_of, Formed.formed, within, formed_into}
 use Rattle.sums.specs.declared.Formed as declared
 use Rattle.sums.specs.declared.Formed.TheVariants.{Terms}
-use Rattle.sums.specs.contracts.Formed.{the_type}
+use Rattle.sums.proofs.Refusing.{NoTerms}
 use Rattle.sums.proofs.Forming.{within-yes}
 use Rattle.sums.proofs.Answering.{Known, given, refused, over-into}
 
 module _ (spread : ℕ) (s : Sum) (ws₀ : List ℕ) (cs₀ : List ℤ) {ws : List ℕ} {cs : List ℤ} (a : declared.Formed)
     (told : (formed_of a, ws, cs) ≡ formed_into (within spread s) ws₀ cs₀) where
   -- nothing is copied
-  pub copy-stops : OneOf (1 ∷ []) (tag_of the_type a) → (ps : List ℕ) (ds : List ℤ) → (formed_of a, ps, ds) ≡ formed_into (within spread s) ps ds
+  pub copy-stops : NoTerms a → (ps : List ℕ) (ds : List ℤ) → (formed_of a, ps, ds) ≡ formed_into (within spread s) ps ds
   copy-stops key ps ds =
       let no = refused spread s ws₀ cs₀ ws cs a key told in
       over-into spread s ps ds a no.0 no.1

@@ -1,15 +1,13 @@
 -- What the loop of `put` keeps: the power k of the sum that is put stands in two arrays, and the rows of the powers up to k, gathered, in two others; no spread
 -- on the way was above 128.
 use mathlib.Core.Path.{◌≡◌, refl, sym, ◌∙◌, ap, ap₂}
-use mathlib.Core.List.{List, [], ◌∷◌, ◌++◌}
+use mathlib.Core.List.{List, ◌++◌}
 use Prim.Native.Nat.{ℕ, ◌+◌, ◌*◌, max, ◌≤◌, ◌<◌}
 use native.Mathlib.Omega.{arith}
 use native.Mathlib.Nat.{le_trans, le-max_left, le-max_right, max-le, mul-le-mul_right}
 use native.Mathlib.Numerals.{add-one}
 use lib.IntN.{ℤ, pos}
 use lib.ListN.{length, take}
-use types.Run.{OneOf}
-use denote.Enum.Declared.{tag_of}
 use Rattle.algebra.specs.Limits.{variables, largest_degree, most_terms, largest_weight}
 use Rattle.algebra.specs.Sum.{Term, Sum, degree_of, weight}
 use Rattle.algebra.specs.Collect.{gather, drop_zeros, collect, spread}
@@ -29,7 +27,7 @@ use Rattle.sums.specs.Formed.{Formed, formed_of, Formed.formed, Formed.over, wit
 use Rattle.sums.specs.Rows.{Stands, Added}
 use Rattle.sums.specs.declared.Formed as declared
 use Rattle.sums.specs.declared.Formed.TheVariants.{Terms}
-use Rattle.sums.specs.contracts.Formed.{the_type}
+use Rattle.sums.proofs.Refusing.{NoTerms}
 use Rattle.sums.proofs.Holding.{Holdable, holdable}
 use Rattle.sums.proofs.Forming.{within-yes}
 use Rattle.sums.proofs.Answering.{number-refused, added-given, given, refused, over-into}
@@ -53,7 +51,7 @@ Tells v S s r ps ds = (formed_of r, ps, ds) ≡ formed_into (pair_of v S s) ps d
 
 -- a refusal on the way is handed on
 abbrev Stops : ℕ → Sum → Sum → declared.Formed → Type 0
-Stops v S s r = OneOf (1 ∷ []) (tag_of the_type r) → (ps : List ℕ) (ds : List ℤ) → Tells v S s r ps ds
+Stops v S s r = NoTerms r → (ps : List ℕ) (ds : List ℤ) → Tells v S s r ps ds
 
 module _ {v : ℕ} {sp : List ℕ} {sc : List ℤ} {fp : List ℕ} {fc : List ℤ} (g : CanPut v sp sc fp fc) (a : Allowed v sp sc fp fc) where
   abbrev S : Sum

@@ -1,14 +1,13 @@
 -- Estimates, beside the cases of document 01 (which are in `promises`): one table, which the checker computes.
 use mathlib.Core.Path.{◌≡◌, refl}
-use mathlib.Core.Bool.{Bool, true, false, ◌&&◌}
+use mathlib.Core.Bool.{true}
 use mathlib.Core.List.{List, [], ◌∷◌, ◌++◌}
 use Prim.Native.Nat.{ℕ, ◌+◌, ◌*◌, ◌-◌}
-use lib.Dec.{leb}
-use lib.IntN.{ℤ, pos, negsuc, nat_abs, one, pow, ◌+ℤ◌, ◌-ℤ◌}
+use lib.IntN.{ℤ, pos, negsuc, one, pow}
 use lib.ListN.{length, replicate}
 use Rattle.algebra.specs.Limits.{variables, largest_weight}
 use Rattle.algebra.specs.Pattern.{degree, then_by, by_powers, order}
-use Rattle.algebra.specs.Sum.{Sum, weight}
+use Rattle.algebra.specs.Sum.{weight}
 use Rattle.algebra.specs.Value.{total, pattern_value, value}
 use Rattle.algebra.specs.Margin.{pattern_size, size, unsigned, raised_by, margin}
 use Rattle.answers.specs.Refusals.{SUM, READING, RANGE}

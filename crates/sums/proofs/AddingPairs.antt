@@ -7,8 +7,6 @@ use native.Mathlib.Nat.{mul-le-mul_left}
 use native.Mathlib.Decide.{dec_lt}
 use lib.IntN.{ℤ, pos}
 use lib.ListN.{length, take, length-map}
-use types.Run.{OneOf}
-use denote.Enum.Declared.{tag_of}
 use Rattle.algebra.specs.Limits.{variables, most_terms}
 use Rattle.algebra.specs.Sum.{Term, Sum, weight}
 use Rattle.algebra.specs.Collect.{gather, spread}
@@ -27,7 +25,7 @@ use Rattle.sums.specs.Formed.{Formed, formed_of, within, with_row}
 use Rattle.sums.specs.Rows.{RoomFor, CanAdd, Added, places_for, CanAddProduct}
 use Rattle.sums.specs.declared.Formed as declared
 use Rattle.sums.specs.declared.Formed.TheVariants.{Terms}
-use Rattle.sums.specs.contracts.Formed.{the_type}
+use Rattle.sums.proofs.Refusing.{NoTerms}
 use Rattle.sums.proofs.Holding.{map-take, holds, terms-many}
 use Rattle.sums.proofs.Answering.{number-refused, added-over}
 use Rattle.sums.proofs.Fronts.{Placed, placed-inside, placed-is, placed-held}
@@ -140,7 +138,7 @@ module _ (sr tr : List ℕ) {ks : List ℕ} {cs : List ℤ} {n : ℕ} {sc : List
     formed-apart is = record { asked = g; placed = multiplied factors sr tr refl refl hr₀ hc₀ r hr told is }
 
     -- too many alone, they are too many
-    pub apart-over : OneOf (1 ∷ []) (tag_of the_type r) → Added (with_row (pairs (terms (words_at sr) sc) (terms (words_at tr) tc)) (first_terms n (words_at ks) cs)) (formed_of r) (words_at ks) cs
+    pub apart-over : NoTerms r → Added (with_row (pairs (terms (words_at sr) sc) (terms (words_at tr) tc)) (first_terms n (words_at ks) cs)) (formed_of r) (words_at ks) cs
     unfolding with_row terms terms_by
     apart-over key =
         let all = pairs (terms (words_at sr) sc) (terms (words_at tr) tc) in

@@ -1,13 +1,11 @@
 -- What an answer of forming tells: the terms stand in the two areas, or the spread is above 128.
 use mathlib.Core.Path.{◌≡◌, refl, sym, ◌∙◌, ap}
-use mathlib.Core.List.{List, [], ◌∷◌}
+use mathlib.Core.List.{List}
 use Prim.Native.Nat.{ℕ, ◌≤◌, ◌<◌}
 use native.Mathlib.Omega.{arith}
 use native.Mathlib.Decide.{dec_lt}
 use lib.IntN.{ℤ}
 use lib.ListN.{length, take}
-use types.Run.{OneOf}
-use denote.Enum.Declared.{tag_of}
 use Rattle.algebra.specs.Limits.{most_terms}
 use Rattle.algebra.specs.Sum.{Sum}
 use Rattle.algebra.specs.Held.{words_of, coefficients_of}
@@ -16,7 +14,7 @@ use Rattle.sums.specs.Formed.{Formed, formed_of, Formed.formed, Formed.over, wit
 use Rattle.sums.specs.Rows.{Stands, counted, Added}
 use Rattle.sums.specs.declared.Formed as declared
 use Rattle.sums.specs.declared.Formed.TheVariants.{Terms, Over}
-use Rattle.sums.specs.contracts.Formed.{the_type}
+use Rattle.sums.proofs.Refusing.{NoTerms}
 use Rattle.sums.proofs.Forming.{within-yes, within-no}
 
 -- ---- The number alone.
@@ -43,8 +41,8 @@ module _ (spread : ℕ) (s : Sum) where
           let told : over ≡ formed (length s) = e ∙ ap counted (within-yes spread s (omega arith)) in
           let z : ◌≡◌ {A = ℕ} 0 1 = cc in absurd (omega arith)
 
-  pub number-refused : (r : declared.Formed) → OneOf (1 ∷ []) (tag_of the_type r) → formed_of r ≡ counted (within spread s) → (formed_of r ≡ over) × (most_terms < spread)
-  number-refused (Terms n) k e = absurd (omega arith)
+  pub number-refused : (r : declared.Formed) → NoTerms r → formed_of r ≡ counted (within spread s) → (formed_of r ≡ over) × (most_terms < spread)
+  number-refused (Terms n) k e = absurd (k n refl)
   number-refused Over k e = (refl, over-many e)
 
 -- ---- With areas that are the function's to write: nothing is said of their other places.
@@ -113,7 +111,7 @@ module _ (spread : ℕ) (s : Sum) (ws₀ : List ℕ) (cs₀ : List ℤ) (ws : Li
       let all = e ∙ ap (λ x. formed_into x ws₀ cs₀) (within-yes spread s told.0) in
       record { few = told.0; many = told.1; words_are = ap (λ x. x.1) all; coefficients_are = ap (λ x. x.2) all }
 
-  pub refused : (r : declared.Formed) → OneOf (1 ∷ []) (tag_of the_type r) → Answers (formed_of r) → (formed_of r ≡ over) × (most_terms < spread)
+  pub refused : (r : declared.Formed) → NoTerms r → Answers (formed_of r) → (formed_of r ≡ over) × (most_terms < spread)
   refused r k e = number-refused spread s r k (ap (λ x. x.0) e ∙ number (within spread s))
 
 -- a sum whose spread is above 128 is refused, and the areas stay

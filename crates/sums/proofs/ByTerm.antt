@@ -2,7 +2,7 @@
 use mathlib.Core.Path.{◌≡◌, sym, ◌∙◌, ap}
 use mathlib.Core.Bool.{true, false}
 use mathlib.Core.List.{List, [], ◌∷◌, append-nil}
-use Prim.Native.Nat.{ℕ, ◌+◌, ◌*◌, ◌≤◌, ◌<◌}
+use Prim.Native.Nat.{ℕ, ◌+◌, ◌≤◌, ◌<◌}
 use native.Mathlib.Omega.{arith}
 use native.Mathlib.Nat.{mul-le-mul_right}
 use lib.IntN.{ℤ, pos, ◌*ℤ◌}
@@ -10,14 +10,13 @@ use lib.ListN.{length, get_or, set, length-map}
 use lib.Seq.{take_all}
 use mir.Syntax.{w64}
 use mir.Val.{SFits}
-use Rattle.algebra.specs.Limits.{variables, largest_degree, most_terms}
+use Rattle.algebra.specs.Limits.{largest_degree, most_terms}
 use Rattle.algebra.specs.Pattern.{times, degree}
 use Rattle.algebra.specs.Sum.{Term, term, Sum, is_zero, weight}
 use Rattle.algebra.specs.Collect.{gather, drop_zeros, collect, spread}
 use Rattle.algebra.specs.Arithmetic.{row, pairs, ◌⊗◌, product_spread}
 use Rattle.algebra.specs.Word.{word, exponents, terms, Valid}
 use Rattle.algebra.specs.Held.{words_of, coefficients_of}
-use Rattle.algebra.proofs.Patterns.Laws.{times-length}
 use Rattle.algebra.proofs.Patterns.Word.{exponents-length}
 use Rattle.algebra.proofs.Sums.Ordered.{gather-fixed}
 use Rattle.algebra.proofs.Sums.Occurs.{spread-gather}

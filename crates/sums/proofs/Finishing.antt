@@ -10,7 +10,6 @@ use lib.Seq.{take_all}
 use Rattle.algebra.specs.Sum.{Term, term, Sum, is_zero}
 use Rattle.algebra.specs.Collect.{keep, drop_zeros}
 use Rattle.algebra.specs.Word.{exponents, terms}
-use Rattle.algebra.proofs.Patterns.Word.{exponents-length}
 use Rattle.sums.specs.Formed.{Formed.formed, formed_into}
 use Rattle.sums.specs.Held.{Held}
 use Rattle.sums.proofs.Holding.{each-valid, terms-many, terms-next}

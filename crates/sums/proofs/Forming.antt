@@ -6,7 +6,6 @@ use native.Mathlib.Decide.{dec_lt}
 use borrow.Author.Tests.{le-leb, lt-leb}
 use Rattle.algebra.specs.Limits.{most_terms}
 use Rattle.algebra.specs.Sum.{Sum}
-use Rattle.algebra.specs.Collect.{spread}
 use Rattle.sums.specs.Formed.{Formed.formed, Formed.over, within}
 
 module _ (spread : ℕ) (s : Sum) where

@@ -15,7 +15,6 @@ use Rattle.algebra.specs.Sum.{Term, term, Sum, in_order, degree_of, weight}
 use Rattle.algebra.specs.Word.{word, exponents, terms, EachValid}
 use Rattle.algebra.specs.Held.{words_of, coefficients_of}
 use Rattle.algebra.specs.Accepted.{Accepted}
-use Rattle.algebra.proofs.Patterns.Word.{exponents-length}
 use Rattle.algebra.proofs.Patterns.Held.{held-length, held_at}
 use Rattle.algebra.proofs.Sums.Held.{terms-long, terms-again}
 use Rattle.algebra.proofs.Sums.Every.{Every, Long, UpTo, degree-every}

@@ -4,6 +4,7 @@ pub mod Storing
 pub mod MakeRow
 pub mod Finishing
 pub mod Forming
+pub mod Refusing
 pub mod Answering
 pub mod Single
 pub mod Fronts

@@ -14,9 +14,8 @@ use Rattle.algebra.specs.Limits.{variables, most_terms}
 use Rattle.algebra.specs.Pattern.{order}
 use Rattle.algebra.specs.Sum.{Term, term, Sum, is_zero, no_zero}
 use Rattle.algebra.specs.Arithmetic.{◌⊕◌, sum_spread}
-use Rattle.algebra.specs.Word.{word, exponents, terms}
+use Rattle.algebra.specs.Word.{word, terms}
 use Rattle.algebra.proofs.Numbers.Absolute.{abs-add}
-use Rattle.algebra.proofs.Patterns.Word.{exponents-length}
 use Rattle.algebra.proofs.Sums.Ordered.{parts}
 use Rattle.algebra.proofs.Sums.Results.{sum-length}
 use Rattle.answers.proofs.Signed.{fits-abs}

@@ -6,8 +6,6 @@ use native.Mathlib.Omega.{arith}
 use native.Mathlib.Nat.{le_refl}
 use lib.IntN.{ℤ}
 use lib.ListN.{length, take, drop, length-append, length-map, take-append-drop}
-use types.Run.{OneOf}
-use denote.Enum.Declared.{tag_of}
 use Rattle.algebra.specs.Limits.{variables, largest_degree, most_terms, largest_weight}
 use Rattle.algebra.specs.Pattern.{Pattern, degree}
 use Rattle.algebra.specs.Sum.{Term, Sum, in_order, degree_of, weight}
@@ -28,7 +26,7 @@ use Rattle.sums.specs.Formed.{formed_of, Formed.formed, within, product_of, with
 use Rattle.sums.specs.Rows.{RoomFor, CanAdd, Added}
 use Rattle.sums.specs.declared.Formed as declared
 use Rattle.sums.specs.declared.Formed.TheVariants.{Terms}
-use Rattle.sums.specs.contracts.Formed.{the_type}
+use Rattle.sums.proofs.Refusing.{NoTerms}
 use Rattle.sums.proofs.Holding.{Holdable, holdable, holds}
 use Rattle.sums.proofs.Answering.{number-refused, added-given, over-into}
 use Rattle.sums.proofs.Fronts.{Placed}
@@ -157,7 +155,7 @@ module _ {sp : List ℕ} {sc : List ℤ} {tp : List ℕ} {tc : List ℤ} (g : as
         let all = ap (λ l. pairs s t ++ l) (nothing (words_at ks) cs) ∙ append-nil (pairs s t) in
         subst (λ l. Added (within (spread l) (gather l)) (formed_of r) (words_at ks') cs') all (rw (first, second) at a)
 
-    pub stops : OneOf (1 ∷ []) (tag_of the_type r) → (ps : List ℕ) (ds : List ℤ) → (formed_of r, ps, ds) ≡ formed_into (product_of (terms sp sc) (terms tp tc)) ps ds
+    pub stops : NoTerms r → (ps : List ℕ) (ds : List ℤ) → (formed_of r, ps, ds) ≡ formed_into (product_of (terms sp sc) (terms tp tc)) ps ds
     unfolding product_of product_spread
     stops key ps ds =
         let no = number-refused (spread (pairs s t)) (gather (pairs s t)) r key told.number_is in

@@ -1,14 +1,12 @@
 -- What the loop of `repeated` keeps: the k-th power stands in the arrays, and no spread on the way was above 128.
 use mathlib.Core.Path.{◌≡◌, refl, sym, ◌∙◌, ap}
-use mathlib.Core.List.{List, [], ◌∷◌}
+use mathlib.Core.List.{List}
 use Prim.Native.Nat.{ℕ, zero, suc, ◌+◌, ◌*◌, ◌-◌, ◌^◌, max, ◌≤◌, ◌<◌}
 use native.Mathlib.Omega.{arith}
 use native.Mathlib.Nat.{add-zero, le_refl, le_trans, le-max_left, le-max_right, max-le, mul-le-mul_left, mul-le-mul_right, pow-zero, pow-suc, pow-le-pow_right}
 use native.Mathlib.Numerals.{add-one}
 use lib.IntN.{ℤ, pos}
 use lib.ListN.{length, take}
-use types.Run.{OneOf}
-use denote.Enum.Declared.{tag_of}
 use Rattle.algebra.specs.Limits.{variables, largest_degree, most_terms, largest_weight}
 use Rattle.algebra.specs.Sum.{Sum, degree_of, weight}
 use Rattle.algebra.specs.Arithmetic.{integer, one_sum, ◌⊗◌, product_spread, power, power_spread}
@@ -20,7 +18,7 @@ use Rattle.sums.specs.Formed.{formed_of, Formed.formed, within, product_of, powe
 use Rattle.sums.specs.declared.Formed as declared
 use Rattle.sums.specs.declared.Formed.TheVariants.{Terms}
 use Rattle.sums.specs.Held.{Held}
-use Rattle.sums.specs.contracts.Formed.{the_type}
+use Rattle.sums.proofs.Refusing.{NoTerms}
 use Rattle.sums.proofs.Holding.{holdable}
 use Rattle.sums.proofs.Forming.{within-yes}
 use Rattle.sums.proofs.Answering.{given, refused, over-into}
@@ -147,7 +145,7 @@ module _ {sp : List ℕ} {sc : List ℤ} {e : ℕ} {own-patterns : List ℕ} {ow
         unfolding product_of
         answer = told ∙ ap (λ x. formed_into x next-patterns next-coefficients) (ap (product_of s) lent ∙ product_turned s so_far)
 
-        pub stops : OneOf (1 ∷ []) (tag_of the_type a) → (ps : List ℕ) (ds : List ℤ) → (formed_of a, ps, ds) ≡ formed_into (power_of (terms sp sc) e) ps ds
+        pub stops : NoTerms a → (ps : List ℕ) (ds : List ℤ) → (formed_of a, ps, ds) ≡ formed_into (power_of (terms sp sc) e) ps ds
         unfolding power_of
         stops key ps ds =
             let no = refused (product_spread so_far s) (so_far ⊗ s) next-patterns next-coefficients ws cs a key answer in

@@ -1,7 +1,7 @@
 -- What the loop of `raise` keeps: the coefficients of the k-th power of two terms stand in the first places; and what it answers.
 use mathlib.Core.Path.{◌≡◌, refl, sym, ◌∙◌, ap, ap₂}
 use mathlib.Core.List.{List, [], ◌∷◌}
-use Prim.Native.Nat.{ℕ, ◌+◌, ◌*◌, ◌-◌, ◌^◌, ◌≤◌, ◌<◌}
+use Prim.Native.Nat.{ℕ, ◌+◌, ◌*◌, ◌^◌, ◌≤◌, ◌<◌}
 use native.Mathlib.Omega.{arith}
 use native.Mathlib.Nat.{pow-le-pow_left, pow-le-pow_right}
 use lib.Dec.{T, ltb, ltb→lt, nltb→le}
@@ -13,7 +13,6 @@ use Rattle.algebra.specs.Sum.{Term, term, Sum, ordered, weight}
 use Rattle.algebra.specs.Arithmetic.{power, power_spread}
 use Rattle.algebra.specs.Word.{word, exponents, terms_by, terms}
 use Rattle.algebra.specs.Held.{words_of, coefficients_of}
-use Rattle.algebra.proofs.Patterns.Word.{exponents-length}
 use Rattle.algebra.proofs.Sums.Held.{terms-long}
 use Rattle.algebra.proofs.Sums.Ordered.{whole}
 use Rattle.algebra.proofs.Sums.Results.{power-weight}

@@ -22,7 +22,7 @@ pub enum Read {
 }
 
 // Terms with + or - between them; a minus may stand before the first.
-#[cycle(read_atom_read_factor_read_sum_read_term)]
+#[cycle(grammar)]
 pub(crate) fn read_sum(
     text: &[u8],
     at: usize,
@@ -58,7 +58,7 @@ pub(crate) fn read_sum(
 }
 
 // Factors with * between them.
-#[cycle(read_atom_read_factor_read_sum_read_term)]
+#[cycle(grammar)]
 fn read_term(
     text: &[u8],
     at: usize,
@@ -90,7 +90,7 @@ fn read_term(
 }
 
 // An atom alone, or raised to an exponent.
-#[cycle(read_atom_read_factor_read_sum_read_term)]
+#[cycle(grammar)]
 fn read_factor(
     text: &[u8],
     at: usize,
@@ -119,7 +119,7 @@ fn read_factor(
 }
 
 // A number, a letter, or a sum in brackets, of which `levels` more levels may open.
-#[cycle(read_atom_read_factor_read_sum_read_term)]
+#[cycle(grammar)]
 fn read_atom(
     text: &[u8],
     at: usize,

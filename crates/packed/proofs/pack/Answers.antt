@@ -10,12 +10,13 @@ use Rattle.packed.proofs.pack.Goals as goal
 use Rattle.packed.proofs.pack.Goals.{Else-count-coefficients}
 
 -- the lengths and the count have passed their tests
-passed : (d : Else-count-coefficients) → PackFits d.args.count d.args.patterns.now d.args.coefficients.now d.args.result.now
+passed : (d : Else-count-coefficients) → PackFits d.args.count d.args.patterns.now d.args.coefficients.now d.args.res.now
 passed d = record {
   room = d.if-res-lt-MOST_BYTES.false;
   few = d.if-count-gt-MOST_TERMS.false;
   patterns_enough = d.if-count-patterns.false;
   coefficients_enough = d.if-count-coefficients.false;
+}
 
 pub returns-then-res-lt-MOST_BYTES : goal.returns-then-res-lt-MOST_BYTES
 returns-then-res-lt-MOST_BYTES c = no_room _ _ _ _ c.if-res-lt-MOST_BYTES.true
@@ -38,7 +39,7 @@ write_sum-length-requires-clause-each_valid c = let p = passed (goal.at.write_su
 
 pub write_sum-length-requires-clause-coefficients_in_bounds : goal.write_sum-length-requires-clause-coefficients_in_bounds
 write_sum-length-requires-clause-coefficients_in_bounds c = let p = passed (goal.at.write_sum-length-requires-clause-coefficients_in_bounds c).Else-count-coefficients in
-    let every = every-good p (omega (arith, c.good_terms-good.ensures, c.if-good-count.false)) in (every-valid p every, has_room p every)
+    let every = every-good p (omega (arith, c.good_terms-good.ensures, c.if-good-count.false)) in has_room p every
 
 pub returns : goal.returns
 returns c = let p = passed (goal.at.returns c).Else-count-coefficients in

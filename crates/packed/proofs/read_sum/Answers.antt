@@ -6,7 +6,7 @@ use lib.IntN.{pos}
 use lib.ListN.{replicate}
 use Rattle.algebra.specs.Limits.{variables, most_terms}
 use Rattle.numbers.specs.Item.{Item.got}
-use Rattle.numbers.proofs.Items.{number-stopped, number-answered, IsValue, is-value}
+use Rattle.numbers.proofs.Items.{number-stopped, number-answered}
 use Rattle.packed.specs.ReadSum.{read_terms}
 use Rattle.packed.specs.Inside.Held.{read_count}
 use Rattle.packed.proofs.TakeSum.{count-few}
@@ -20,13 +20,10 @@ counted : (d : In-Value) → read_count d.args.bytes.now d.args.at ≡ got d.in-
 counted d = number-answered d.read_count-first.result d.in-Value.is d.read_count-first.ensures
 
 -- the terms that the arrays hold
-value : (d : In-Value-item) → IsValue d.take-item.result
-value d = is-value _ d.in-Value-item.is
-
 held : (d : In-Value-item)
     → ReadAt (read_terms variables d.in-Value.count [] d.args.bytes.now d.in-Value.next) (replicate most_terms 0) (replicate most_terms (pos 0)) d.take-item.new.patterns d.take-item.new.coefficients
-    (value d).value (value d).next
-held d = taken-read d.take-item.result _ _ (replicate most_terms 0) (replicate most_terms (pos 0)) d.take-item.ensures (value d).is
+    d.in-Value-item.field-0 d.in-Value-item.field-1
+held d = taken-read d.take-item.result _ _ (replicate most_terms 0) (replicate most_terms (pos 0)) d.take-item.ensures d.in-Value-item.is
 
 pub returns-in_default : goal.returns-in_default
 returns-in_default c = into-stops _ _ (count-faulty _ _ (number-stopped c.read_count-first.result c.in_default.not-Value _ c.read_count-first.ensures))
@@ -53,4 +50,4 @@ pub copy_coefficients-requires-clause-count_in_bounds_2 : goal.copy_coefficients
 copy_coefficients-requires-clause-count_in_bounds_2 c = (terms-room _ _ _ (held (goal.at.copy_coefficients-requires-clause-count_in_bounds_2 c).In-Value-item)).1
 
 pub returns : goal.returns
-returns c = into-areas _ _ (counted (goal.at.returns c).In-Value) (value (goal.at.returns c).In-Value-item).is (held (goal.at.returns c).In-Value-item) _ _ c.copy_words.ensures c.copy_coefficients.ensures
+returns c = into-areas _ _ (counted (goal.at.returns c).In-Value) c.in-Value-item.is (held (goal.at.returns c).In-Value-item) _ _ c.copy_words.ensures c.copy_coefficients.ensures

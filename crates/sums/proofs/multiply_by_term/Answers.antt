@@ -1,5 +1,4 @@
 use mathlib.Core.Path.{◌≡◌, ◌∙◌, ap}
-use Prim.Native.Nat.{◌-◌}
 use lib.IntN.{pos, ◌*ℤ◌}
 use lib.ListN.{get_or}
 use mir.Syntax.{w64}

@@ -9,10 +9,10 @@ pub returns-then-not-fits : goal.returns-then-not-fits
 returns-then-not-fits c = stays _ _ (over-told _ _ (sym c.fits.ensures ∙ not-true _ c.if-not-fits.true-raw))
 
 pub merge-count-requires-clause-tc_in_bounds : goal.merge-count-requires-clause-tc_in_bounds
-merge-count-requires-clause-tc_in_bounds c = ((c.requires.addends, spread-room c.requires.addends c.requires.room_of (sym c.fits.ensures ∙ not-false _ c.if-not-fits.false-raw))).1.0
+merge-count-requires-clause-tc_in_bounds c = (spread-room c.requires.addends c.requires.room_of (sym c.fits.ensures ∙ not-false _ c.if-not-fits.false-raw)).0
 
 pub merge-count-requires-clause-tc_in_bounds_2 : goal.merge-count-requires-clause-tc_in_bounds_2
-merge-count-requires-clause-tc_in_bounds_2 c = ((c.requires.addends, spread-room c.requires.addends c.requires.room_of (sym c.fits.ensures ∙ not-false _ c.if-not-fits.false-raw))).1.1
+merge-count-requires-clause-tc_in_bounds_2 c = (spread-room c.requires.addends c.requires.room_of (sym c.fits.ensures ∙ not-false _ c.if-not-fits.false-raw)).1
 
 pub returns : goal.returns
 returns c = c.merge-count.ensures ∙ ap (λ x. formed_into x c.args.patterns.now c.args.coefficients.now) (formed-told _ _ (sym c.fits.ensures ∙ not-false _ c.if-not-fits.false-raw))

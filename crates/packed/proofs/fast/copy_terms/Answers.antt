@@ -1,5 +1,5 @@
 use mathlib.Core.Path.{◌≡◌}
-use Prim.Native.Nat.{◌+◌, ◌-◌, ◌≤◌}
+use Prim.Native.Nat.{◌+◌, ◌≤◌}
 use native.Mathlib.Omega.{arith}
 use borrow.Author.Rules.{rules}
 use lib.ListN.{length}
@@ -22,7 +22,7 @@ inside : (d : In-Value) → d.in-Value.next ≤ length d.args.bytes.now
 inside d = (number-inside _ _ _ _ (read d)).1
 
 room : (e : Else-bytes-next) → e.in-Value.next + variables ≤ length e.args.bytes.now
-room e = omega (arith, inside (?UP e).In-Value, e.if-bytes-next.false)
+room e = omega (arith, (number-inside _ _ _ _ (number-answered e.read_item-item.result e.in-Value.is e.read_item-item.ensures)).1, e.if-bytes-next.false)
 
 pub loop-k-init : goal.loop-k-init
 loop-k-init c = start _ _ _ _ _ c.requires.count_in_bounds c.requires.count_in_bounds_2

@@ -1,6 +1,5 @@
 use mathlib.Core.Path.{◌≡◌, ◌∙◌, ap}
-use mathlib.Core.Logic.{⊎_elim}
-use Prim.Native.Nat.{◌-◌, ◌<◌}
+use Prim.Native.Nat.{◌<◌}
 use native.Mathlib.Omega.{arith}
 use lib.IntN.{pos, nat_abs}
 use lib.ListN.{get_or}
@@ -8,7 +7,7 @@ use mir.Syntax.{w64}
 use mir.ValLaws.{to_z-of_z}
 use Rattle.packed.proofs.GoodTerms.{start, ended, Meeting, zero-stops, heavy-stops, high-stops, early-stops, again}
 use Rattle.packed.proofs.fast.good_terms.Goals as goal
-use Rattle.packed.proofs.fast.good_terms.Goals.{After-absolute-size}
+use Rattle.packed.proofs.fast.good_terms.Goals.{After-absolute-size, then-total-degree-2+else-pattern-last, else-total-degree-2}
 
 -- the size of the next term is known
 met : (d : After-absolute-size)
@@ -37,8 +36,9 @@ returns-then-pattern-last c = early-stops (met (goal.at.returns-then-pattern-las
 
 pub loop-k-preserved : goal.loop-k-preserved
 loop-k-preserved c = let w = get_or c.args.patterns.now c.loop-k.k 0 in
-    let tie : c.total-total.result ≡ c.loop-k.degree → w < c.loop-k.last = ⊎_elim (λ s (goal.at.loop-k-preserved c).Else-size-eq0. s.2.left) (λ s (goal.at.loop-k-preserved c).Else-size-eq0. absurd (s.left (goal.at.loop-k-preserved c).Else-size-eq0)) c.if-total-degree-2.branch in
-    again (met (goal.at.loop-k-preserved c).After-absolute-size) c.total-total.ensures c.if-size-eq0.false c.if-size-weight.false (omega (arith, c.shared_slice_known-in-loop-k-1.given c.loop-k.k)) c.if-total-degree.false tie
+    let tie : c.total-total.result ≡ c.loop-k.degree → w < c.loop-k.last =
+    elim c.if-total-degree-2.branch [ then-total-degree-2+else-pattern-last b ↦ λ e. b.if-pattern-last.false | else-total-degree-2 b ↦ λ e. absurd (b.if-total-degree-2.false e) ] in
+    again (met (goal.at.loop-k-preserved c).After-absolute-size) c.total-total.ensures c.if-size-eq0.false c.if-size-weight.false (omega (arith, c.type_inv.patterns c.loop-k.k)) c.if-total-degree.false tie
 
 pub returns : goal.returns
 returns c = ended c.loop-k.invariant c.loop-k-test.false

@@ -1,4 +1,3 @@
-use Prim.Native.Nat.{◌-◌}
 use native.Mathlib.Omega.{arith}
 use Rattle.numbers.proofs.Items.{number-stopped, number-answered}
 use Rattle.packed.proofs.ReadItems.{start, stops, too-high, asks, again, ended}

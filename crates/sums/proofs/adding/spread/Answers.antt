@@ -1,5 +1,4 @@
 use mathlib.Core.Path.{sym, ◌∙◌, ap}
-use Prim.Native.Nat.{◌-◌}
 use Rattle.algebra.specs.Inside.Standing.{standing}
 use Rattle.sums.proofs.Holding.{each-valid}
 use Rattle.sums.proofs.Counts.{steps_first, steps-both, steps-second, finally}

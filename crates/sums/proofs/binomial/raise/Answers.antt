@@ -1,5 +1,5 @@
 use mathlib.Core.Path.{◌≡◌, ◌∙◌, ap₂}
-use Prim.Native.Nat.{◌+◌, ◌-◌}
+use Prim.Native.Nat.{◌+◌}
 use native.Mathlib.Omega.{arith}
 use lib.IntN.{pos}
 use lib.ListN.{get_or, take, set, length-set}
@@ -36,12 +36,12 @@ step-requires-clause-y_bound c = rw (first (goal.at.step-requires-clause-y_bound
 
 pub loop-k-preserved : goal.loop-k-preserved
 loop-k-preserved c = record {
-      base = c.loop-k.invariant.base;
-      two = c.loop-k.invariant.two;
-      raised = again c.loop-k.invariant.base c.loop-k.invariant.two c.loop-k.invariant.raised c.loop-k-test.true
-          (c.step.ensures ∙ ap₂ (λ x y. written (stepped x y (pos 0) (take (c.loop-k.k + 1) c.loop-k.coefficients)) c.loop-k.coefficients) (first (goal.at.loop-k-preserved c).After-y-1) (second (goal.at.loop-k-preserved c).After-y-1))
-          c.step.auto.coefficients;
-    }
+  base = c.loop-k.invariant.base;
+  two = c.loop-k.invariant.two;
+  raised = again c.loop-k.invariant.base c.loop-k.invariant.two c.loop-k.invariant.raised c.loop-k-test.true
+      (c.step.ensures ∙ ap₂ (λ x y. written (stepped x y (pos 0) (take (c.loop-k.k + 1) c.loop-k.coefficients)) c.loop-k.coefficients) (first (goal.at.loop-k-preserved c).After-y-1) (second (goal.at.loop-k-preserved c).After-y-1))
+      c.step.auto.coefficients;
+}
 
 pub words-requires-clause-e_in_bounds : goal.words-requires-clause-e_in_bounds
 words-requires-clause-e_in_bounds c = omega (arith, few c.requires.base c.requires.sp_len, c.requires.room.words)

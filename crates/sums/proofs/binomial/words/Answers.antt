@@ -1,5 +1,4 @@
 use mathlib.Core.Path.{refl}
-use Prim.Native.Nat.{◌-◌}
 use Rattle.sums.proofs.Wording.{start, next_small, again, ended}
 use Rattle.sums.proofs.binomial.words.Goals as goal
 

@@ -1,5 +1,4 @@
 use mathlib.Core.Path.{◌≡◌, ◌∙◌, ap, ap₂}
-use Prim.Native.Nat.{◌-◌}
 use native.Mathlib.Omega.{arith}
 use lib.IntN.{pos, ◌*ℤ◌, pow}
 use lib.ListN.{get_or}
@@ -22,12 +21,12 @@ overflow_mul-power c = rw (c.loop-k.invariant.power_is, read (goal.at.overflow_m
 
 pub loop-k-preserved : goal.loop-k-preserved
 loop-k-preserved c = record {
-      base = c.loop-k.invariant.base;
-      single = c.loop-k.invariant.single;
-      power_is = to_z-of_z w64 _ (overflow_mul-power c) ∙ ap₂ ◌*ℤ◌ c.loop-k.invariant.power_is (read (goal.at.loop-k-preserved c).After-c-1) ∙ next_power c.loop-k.invariant.base c.loop-k.invariant.single c.loop-k.k;
-      some = omega (arith, c.loop-k.invariant.some);
-      inside = omega (arith, c.loop-k-test.true);
-    }
+  base = c.loop-k.invariant.base;
+  single = c.loop-k.invariant.single;
+  power_is = to_z-of_z w64 _ (overflow_mul-power c) ∙ ap₂ ◌*ℤ◌ c.loop-k.invariant.power_is (read (goal.at.loop-k-preserved c).After-c-1) ∙ next_power c.loop-k.invariant.base c.loop-k.invariant.single c.loop-k.k;
+  some = omega (arith, c.loop-k.invariant.some);
+  inside = omega (arith, c.loop-k-test.true);
+}
 
 pub overflow_mul-patterns : goal.overflow_mul-patterns
 overflow_mul-patterns c = record { fits = word_small c.loop-k.invariant.base 0 (omega (arith, c.loop-k.invariant.single)) }

@@ -1,6 +1,5 @@
 -- `add_cleared` meets its contract: the pairs are added, and the places after the sum, or all places, are cleared.
 use mathlib.Core.Path.{◌≡◌, sym, ◌∙◌, ap}
-use mathlib.Core.Logic.{⊎_elim}
 use Prim.Native.Nat.{◌≤◌}
 use borrow.Author.Rules.{rules}
 use lib.ListN.{length}
@@ -14,14 +13,15 @@ use Rattle.sums.proofs.Pairing.{answer-holdable}
 use Rattle.sums.proofs.AddingPairs.{can-add}
 use Rattle.sums.proofs.Clearing.{number_of, number-inside, ranks-stand, cleared-into}
 use Rattle.sums.proofs.rows.add_cleared.Goals as goal
-use Rattle.sums.proofs.rows.add_cleared.Goals.{Joined-formed}
+use Rattle.sums.proofs.rows.add_cleared.Goals.{Joined-formed, in-Terms, in-Over}
 
 -- in either case `all` is the number of terms that stand in the areas
 known : (d : Joined-formed)
     → (d.match-formed.formed ≡ d.add_apart-formed.result) × (d.match-formed.all ≡ number_of (formed_of d.match-formed.formed))
-known d =
-    ⊎_elim (λ w. (w.3 ∙ sym w.1.given.1, w.4 ∙ ap (λ r. number_of (formed_of r)) (sym w.3)))
-    (λ w. (w.2, w.3 ∙ ap (λ r. number_of (formed_of r)) (sym (w.2 ∙ w.1.given.1)))) d.match-formed.branch
+known d = elim d.match-formed.branch [
+  | in-Terms w ↦ (w.formed-is ∙ sym w.in-Terms.is, w.all-is ∙ ap (λ r. number_of (formed_of r)) (sym w.formed-is))
+  | in-Over w ↦ (w.formed-is, w.all-is ∙ ap (λ r. number_of (formed_of r)) (sym (w.formed-is ∙ w.in-Over.is)))
+]
 
 added : (d : Joined-formed)
     → Added (with_row (pairs (terms (words_at d.args.sr.now) d.args.sc.now) (terms (words_at d.args.tr.now) d.args.tc.now)) (first_terms d.args.n (words_at d.args.ranks.now) d.args.coefficients.now))

@@ -1,5 +1,5 @@
 use mathlib.Core.Path.{◌≡◌, sym, ◌∙◌}
-use Prim.Native.Nat.{◌-◌, ◌<◌}
+use Prim.Native.Nat.{◌<◌}
 use native.Mathlib.Omega.{arith}
 use lib.IntN.{pos}
 use lib.ListN.{length, get_or, length-map}
@@ -26,7 +26,7 @@ more d = omega (arith, length-map d.args.sr.now word_at, d.loop-k-test.true)
 told : (d : After-merge_row-all)
     → Stands (joined (get_or d.args.sc.now d.loop-k.k (pos 0)) (get_or (words_at d.args.sr.now) d.loop-k.k 0) (words_at d.args.tr.now) d.args.tc.now d.loop-k.all (words_at d.loop-k.ranks) d.loop-k.coefficients)
     d.merge_row-all.result (words_at d.merge_row-all.new.ranks) d.merge_row-all.new.coefficients
-told d = rw (words-at d.args.sr.now d.loop-k.k) (rw (read (?UP d).After-c-1) at d.merge_row-all.ensures)
+told d = rw (words-at d.args.sr.now d.loop-k.k) (rw (to_z-of_z w64 _ (record { sfits = d.c-1.given })) at d.merge_row-all.ensures)
 
 pub loop-k-init : goal.loop-k-init
 loop-k-init c = start c.requires

@@ -18,65 +18,51 @@ use Rattle.sums.proofs.AddRow.{joined-many, ranks-merge, ranks-joined, put_back}
 use Rattle.sums.proofs.rows.add_row.Goals as goal
 use Rattle.sums.proofs.rows.add_row.Goals.{After-merge_row-all, After-rank-rank}
 
--- what was known at the start, and the calls that rank the running sum and the row's factor, seen from the last of them
-abbrev first : After-rank-rank → tie.Start
-first d = (?UP d).Start
-
-abbrev second : After-rank-rank → tie.After-rank-words
-second d = (?UP d).After-gr-1
-
 -- the running sum's ranks and coefficients, in arrays, and the ranks of the row's factor
-ranked : (d : After-rank-rank) → (second d).rank-words.new.1.0 ≡ written (map rank_of (take (first d).args.n (first d).args.patterns.now)) (replicate (most_terms + most_terms) 0)
-ranked d = rw (sub-zero (first d).args.n) at (second d).rank-words.ensures
+ranked : (d : After-rank-rank) → d.rank_words.new.ranks ≡ written (map rank_of (take d.args.n d.args.patterns.now)) (replicate (most_terms + most_terms) 0)
+ranked d = rw (sub-zero d.args.n) at d.rank_words.ensures
 
 by-ranks : (d : After-rank-rank)
-    → CanMerge (words_at (second d).rank-words.new.1.0) d.copy_coefficients.new.area (first d).args.n (word_at d.rank-rank.result) (first d).args.c
-    (words_at (take (length (first d).args.tp.now - 0) d.rank_words-2.new.ranks)) (first d).args.tc.now
+    → CanMerge (words_at d.rank_words.new.ranks) d.copy_coefficients.new.area d.args.n (word_at d.rank-rank.result) d.args.c
+    (words_at (take (length d.args.tp.now - 0) d.rank_words-2.new.ranks)) d.args.tc.now
 by-ranks d =
-    ranks-merge (first d).requires (replicate (most_terms + most_terms) 0) (ranked d) (replicate (most_terms + most_terms) (pos 0)) d.copy_coefficients.ensures (replicate most_terms 0) d.rank_words-2.ensures
-    (sym (sub-zero _)) d.rank-rank.ensures (omega (arith, (second d).rank-words.auto)) (omega (arith, d.copy_coefficients.auto))
+    ranks-merge d.requires (replicate (most_terms + most_terms) 0) (ranked d) (replicate (most_terms + most_terms) (pos 0)) d.copy_coefficients.ensures (replicate most_terms 0) d.rank_words-2.ensures
+    (sym (sub-zero _)) d.rank-rank.ensures (omega (arith, d.rank_words.auto)) (omega (arith, d.copy_coefficients.auto))
 
--- where the row was merged
-abbrev third : After-merge_row-all → tie.After-rank
-third d = (?UP d).After-tr-2-1
-
+-- the merged row stands in the arrays
 stood : (d : After-merge_row-all)
-    → let args = (first (third d)).args in
-    Stands (joined args.c args.word args.tp.now args.tc.now args.n args.patterns.now args.coefficients.now) d.merge_row-all.result (words_at d.merge_row-all.new.ranks) d.merge_row-all.new.coefficients
+    → Stands (joined d.args.c d.args.word d.args.tp.now d.args.tc.now d.args.n d.args.patterns.now d.args.coefficients.now) d.merge_row-all.result (words_at d.merge_row-all.new.ranks) d.merge_row-all.new.coefficients
 stood d =
-    let e = third d in
-    let s = first e in
     subst (λ (l : Sum). Stands l d.merge_row-all.result (words_at d.merge_row-all.new.ranks) d.merge_row-all.new.coefficients)
-    (ranks-joined s.pre (replicate (most_terms + most_terms) 0) (ranked e) (replicate (most_terms + most_terms) (pos 0)) e.before.before.before.before.before.copy-coefficients.ensures (replicate most_terms 0) e.before.before.rank-words2.ensures
-    (sym (sub-zero _)) e.rank.ensures)
-    (rw (to_z-of_z w64 s.args.c s.fits.c) at d.merge_row-all.ensures)
+    (ranks-joined d.requires (replicate (most_terms + most_terms) 0) (rw (sub-zero d.args.n) at d.rank_words.ensures) (replicate (most_terms + most_terms) (pos 0)) d.copy_coefficients.ensures (replicate most_terms 0)
+    d.rank_words-2.ensures (sym (sub-zero _)) d.rank-rank.ensures)
+    (rw (to_z-of_z w64 d.args.c d.ranges.c) at d.merge_row-all.ensures)
 
 -- no more terms than the two have, and the arrays have room for these
 few : (d : After-merge_row-all)
-    → let args = (first (third d)).args in
-    (d.merge_row-all.result ≤ args.n + length args.tp.now) × ((d.merge_row-all.result ≤ length d.merge_row-all.new.ranks) × (d.merge_row-all.result ≤ length d.merge_row-all.new.coefficients))
+    → (d.merge_row-all.result ≤ d.args.n + length d.args.tp.now) × ((d.merge_row-all.result ≤ length d.merge_row-all.new.ranks) × (d.merge_row-all.result ≤ length d.merge_row-all.new.coefficients))
 few d =
-    let e = third d in
-    let pre = (first e).pre in
-    let all : d.merge_row-all.result ≤ (first e).args.n + length (first e).args.tp.now = omega (arith, (stood d).number_is, joined-many pre) in
-    (all, (omega (arith, all, pre.few, pre.factor.few, d.merge_row-all.auto.ranks, (second e).rank-words.kept), omega (arith, all, pre.few, pre.factor.few, d.merge_row-all.auto.coefficients, e.before.before.before.before.before.copy-coefficients.kept)))
+    let pre = d.requires in
+    let all : d.merge_row-all.result ≤ d.args.n + length d.args.tp.now = omega (arith, (stood d).number_is, joined-many pre) in
+    (all, (omega (arith, all, pre.few, pre.factor.few, d.merge_row-all.auto.ranks, d.rank_words.auto), omega (arith, all, pre.few, pre.factor.few, d.merge_row-all.auto.coefficients, d.copy_coefficients.auto)))
 
 pub rank_words-requires-clause-each_valid : goal.rank_words-requires-clause-each_valid
-rank_words-requires-clause-each_valid c = (rw (sub-zero c.args.n) (each-valid c.requires.running, omega (arith, c.requires.running.few))).0
+rank_words-requires-clause-each_valid c = rw (sub-zero c.args.n) (each-valid c.requires.running)
 
 pub rank_words-requires-2-clause-each_valid : goal.rank_words-requires-2-clause-each_valid
 rank_words-requires-2-clause-each_valid c = each-valid c.requires.factor
 
 pub merge_row-all-requires : goal.merge_row-all-requires
-merge_row-all-requires c = rw (to_z-of_z w64 (first (goal.at.merge_row-all-requires c).After-rank-rank).args.c (first (goal.at.merge_row-all-requires c).After-rank-rank).ranges.c) (by-ranks (goal.at.merge_row-all-requires c).After-rank-rank)
+merge_row-all-requires c = rw (to_z-of_z w64 c.args.c c.ranges.c) (by-ranks (goal.at.merge_row-all-requires c).After-rank-rank)
 
 pub put_back-requires-clause-gr_len_bound : goal.put_back-requires-clause-gr_len_bound
-put_back-requires-clause-gr_len_bound c = let all = (few (goal.at.put_back-requires-clause-gr_len_bound c).After-merge_row-all).0 in
-    let pre = (first (third (goal.at.put_back-requires-clause-gr_len_bound c).After-merge_row-all)).requires in (( omega (arith, all, length-take (?UNKNOWN(After_gc3:merge-row.result) - 0) ?UNKNOWN(After_gc3:merge-row.new.0)), (omega (arith, all, length-take (?UNKNOWN(After_gc3:merge-row.result) - 0) ?UNKNOWN(After_gc3:merge-row.new.1.0)), (pre.words_room, pre.coefficients_room)), )).0
+put_back-requires-clause-gr_len_bound c =
+    omega (arith, (few (goal.at.put_back-requires-clause-gr_len_bound c).After-merge_row-all).0, length-take (c.merge_row-all.result - 0) c.merge_row-all.new.ranks)
 
 pub put_back-requires-clause-gc_len_bound : goal.put_back-requires-clause-gc_len_bound
-put_back-requires-clause-gc_len_bound c = let all = (few (goal.at.put_back-requires-clause-gc_len_bound c).After-merge_row-all).0 in
-    let pre = (first (third (goal.at.put_back-requires-clause-gc_len_bound c).After-merge_row-all)).requires in (( omega (arith, all, length-take (?UNKNOWN(After_gc3:merge-row.result) - 0) ?UNKNOWN(After_gc3:merge-row.new.0)), (omega (arith, all, length-take (?UNKNOWN(After_gc3:merge-row.result) - 0) ?UNKNOWN(After_gc3:merge-row.new.1.0)), (pre.words_room, pre.coefficients_room)), )).1.0
+put_back-requires-clause-gc_len_bound c =
+    omega (arith, (few (goal.at.put_back-requires-clause-gc_len_bound c).After-merge_row-all).0, length-take (c.merge_row-all.result - 0) c.merge_row-all.new.coefficients)
 
 pub returns : goal.returns
-returns c = put_back (first (third (goal.at.returns c).After-merge_row-all)).requires ?UNKNOWN(After_gc3:merge-row.new.0) (stood (goal.at.returns c).After-merge_row-all) (sym (sub-zero _)) c.put_back.ensures.patterns_after c.put_back.ensures.coefficients_after
+returns c =
+    put_back c.requires c.merge_row-all.new.ranks (stood (goal.at.returns c).After-merge_row-all) (sym (sub-zero _)) c.put_back.ensures.patterns_after c.put_back.ensures.coefficients_after

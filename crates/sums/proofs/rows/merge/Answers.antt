@@ -1,5 +1,5 @@
 use mathlib.Core.Path.{◌≡◌, sym, ◌∙◌, ap, ap₂, subst}
-use Prim.Native.Nat.{◌+◌, ◌-◌, ◌^◌, ◌<◌}
+use Prim.Native.Nat.{◌-◌, ◌^◌, ◌<◌}
 use lib.IntN.{pos, ◌+ℤ◌, ◌*ℤ◌}
 use lib.ListN.{get_or}
 use mir.Syntax.{w64}
@@ -32,6 +32,15 @@ read-2 : (d : After-e-1)
     (to_z w64 (of_z w64 value) ≡ value) × (to_z w64 (of_z w64 other) ≡ other)
 read-2 d = (to_z-of_z w64 _ (record { sfits = d.d-in-Same-1.given }), to_z-of_z w64 _ (record { sfits = d.e-1.given }))
 
+pub overflow_sub-i : goal.overflow_sub-i
+overflow_sub-i c = (there-is _ _ _ (sym c.last_stands.ensures ∙ ap standing c.in-Same.is) (λ h. h)).0
+
+pub overflow_sub-i-in-After : goal.overflow_sub-i-in-After
+overflow_sub-i-in-After c = (there-is _ _ _ (sym c.last_stands.ensures ∙ ap standing c.in-After.is) (λ h. h)).0
+
+pub overflow_mul-coefficients-in-Same : goal.overflow_mul-coefficients-in-Same
+overflow_mul-coefficients-in-Same c = rw (read-2 c).0 (value-fits c.loop-j.invariant.words c.loop-j-test.true)
+
 -- the two coefficients together, as the machine adds them
 both : (d : After-e-1)
     → let factor = to_z w64 (of_z w64 d.args.c) in
@@ -60,25 +69,16 @@ pub loop-j-preserved-in-Before : goal.loop-j-preserved-in-Before
 loop-j-preserved-in-Before c = new c.loop-j.invariant c.loop-j-test.true (rank-small (goal.at.loop-j-preserved-in-Before c).After-shared_slice_known-in-loop-j-1) (factor-small (goal.at.loop-j-preserved-in-Before c).After-shared_slice_known-in-loop-j-1) (sym c.last_stands.ensures ∙ ap standing c.in-Before.is)
     (to_z-of_z w64 _ (overflow_mul-coefficients c) ∙ ap (λ z. to_z w64 (of_z w64 c.args.c) *ℤ z) (read c))
 
-pub overflow_mul-coefficients-in-Same : goal.overflow_mul-coefficients-in-Same
-overflow_mul-coefficients-in-Same c = rw (read-2 c).0 (value-fits c.loop-j.invariant.words c.loop-j-test.true)
-
 pub overflow_add-coefficients : goal.overflow_add-coefficients
-overflow_add-coefficients c = subst (SFits w64) (sym (both c)) (sum_fits c.loop-j.invariant c.loop-j-test.true (rank-small (goal.at.overflow_add-coefficients c).After-shared_slice_known-in-loop-j-1) (factor-small (goal.at.overflow_add-coefficients c).After-shared_slice_known-in-loop-j-1) (overflow_sub-i (goal.at.overflow_add-coefficients c).In-Same))
+overflow_add-coefficients c = subst (SFits w64) (sym (both c)) (sum_fits c.loop-j.invariant c.loop-j-test.true (rank-small (goal.at.overflow_add-coefficients c).After-shared_slice_known-in-loop-j-1) (factor-small (goal.at.overflow_add-coefficients c).After-shared_slice_known-in-loop-j-1) (there-is _ _ _ (sym c.last_stands.ensures ∙ ap standing c.in-Same.is) (λ h. h)).0)
 
 pub loop-j-preserved-in-Same : goal.loop-j-preserved-in-Same
-loop-j-preserved-in-Same c = known c.loop-j.invariant c.loop-j-test.true (rank-small (goal.at.loop-j-preserved-in-Same c).After-shared_slice_known-in-loop-j-1) (factor-small (goal.at.loop-j-preserved-in-Same c).After-shared_slice_known-in-loop-j-1) (overflow_sub-i (goal.at.loop-j-preserved-in-Same c).In-Same)
+loop-j-preserved-in-Same c = known c.loop-j.invariant c.loop-j-test.true (rank-small (goal.at.loop-j-preserved-in-Same c).After-shared_slice_known-in-loop-j-1) (factor-small (goal.at.loop-j-preserved-in-Same c).After-shared_slice_known-in-loop-j-1) (there-is _ _ _ (sym c.last_stands.ensures ∙ ap standing c.in-Same.is) (λ h. h)).0
     (sym c.last_stands.ensures ∙ ap standing c.in-Same.is) (to_z-of_z w64 _ (overflow_add-coefficients c) ∙ both c)
 
 pub loop-j-preserved : goal.loop-j-preserved
-loop-j-preserved c = passed c.loop-j.invariant c.loop-j-test.true (rank-small (goal.at.loop-j-preserved c).After-shared_slice_known-in-loop-j-1) (factor-small (goal.at.loop-j-preserved c).After-shared_slice_known-in-loop-j-1) (overflow_sub-i-in-After (goal.at.loop-j-preserved c).In-After)
+loop-j-preserved c = passed c.loop-j.invariant c.loop-j-test.true (rank-small (goal.at.loop-j-preserved c).After-shared_slice_known-in-loop-j-1) (factor-small (goal.at.loop-j-preserved c).After-shared_slice_known-in-loop-j-1) (there-is _ _ _ (sym c.last_stands.ensures ∙ ap standing c.in-After.is) (λ h. h)).0
     (sym c.last_stands.ensures ∙ ap standing c.in-After.is) (to_z-of_z w64 _ (record { sfits = c.e-in-After-1.given }))
 
 pub returns : goal.returns
 returns c = rw (to_z-of_z w64 c.args.c c.ranges.c) at (ended c.loop-j.invariant c.loop-j-test.false)
-
-pub overflow_sub-i : goal.overflow_sub-i
-overflow_sub-i c = (there-is _ _ _ (sym c.last_stands.ensures ∙ ap standing c.in-Same.is) (λ h. h)).0
-
-pub overflow_sub-i-in-After : goal.overflow_sub-i-in-After
-overflow_sub-i-in-After c = (there-is _ _ _ (sym c.last_stands.ensures ∙ ap standing c.in-After.is) (λ h. h)).0

@@ -1,5 +1,5 @@
 -- `merge` meets its contract: the loop keeps `Ranking`.
-use Prim.Native.Nat.{◌+◌, ◌-◌}
+use Prim.Native.Nat.{◌+◌}
 use Rattle.sums.proofs.Ranking.{Ranking}
 use Rattle.sums.proofs.rows.merge.Given as goal
 

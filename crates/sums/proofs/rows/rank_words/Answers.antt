@@ -1,5 +1,4 @@
 use mathlib.Core.Path.{sym, ◌∙◌}
-use Prim.Native.Nat.{◌-◌}
 use Rattle.algebra.specs.Inside.Rank.{rank_of}
 use Rattle.answers.proofs.Copies.{again}
 use Rattle.sums.proofs.Holding.{map_at}

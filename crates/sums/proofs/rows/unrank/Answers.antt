@@ -1,5 +1,4 @@
 use mathlib.Core.Path.{sym, ◌∙◌}
-use Prim.Native.Nat.{◌-◌}
 use Rattle.algebra.proofs.Patterns.Rank.{words-at}
 use Rattle.answers.proofs.Copies.{again}
 use Rattle.sums.proofs.rows.unrank.Goals as goal
