@@ -17,7 +17,6 @@ use Rattle.answers.specs.Answers.{Told, Told.done, Told.refused}
 use Rattle.sums.specs.Formed.{formed_of}
 use Rattle.sums.specs.declared.Formed as declared
 use Rattle.sums.specs.declared.Formed.TheVariants.{Terms}
-use Rattle.sums.specs.contracts.Formed.{the_type}
 use Rattle.sums.proofs.Refusing.{NoTerms}
 use Rattle.sums.proofs.Answering.{given, refused as refused-formed}
 use Rattle.answers.specs.Judge.{Judged.good, Judged.fails}
@@ -57,7 +56,7 @@ numbers-next i table h =
     ∙ ap (λ l. get_or table (3 * i) (pos 0) ∷ get_or table (suc (3 * i)) (pos 0) ∷ l) (drop-cons table (suc (suc (3 * i))) (pos 0) (omega arith)))
 
 -- what the code found of them
-pub found-fault : (i : ℕ) (r : answer.Found) → ((k : Kind) → r ≡ Good k → ⊥) → found_of i r ≡ fails NODE i
+pub found-fault : (i : ℕ) (r : answer.Found) → ((k : code.Kind) → r ≡ Good k → ⊥) → found_of i r ≡ fails NODE i
 found-fault i (Good k) key = absurd (key k refl)
 found-fault i Faulty key = refl
 
@@ -201,11 +200,11 @@ module _ {table : List ℤ} {ws₀ : List ℕ} {cs₀ : List ℤ} {nodes : ℕ} 
   spelled : Spells i (numbers_at i table) k
   spelled = read-says i (numbers_at i table) refl n.read
 
-  pub is_node : T (is_node i k)
-  is_node = spelled.is_node
+  pub node-is : T (is_node i k)
+  node-is = spelled.is_node
 
   is-next : T (is_node (length n.built.es) k)
-  is-next = rw n.built.count is_node
+  is-next = rw n.built.count node-is
 
   pub few-nodes : i < most_nodes
   few-nodes = omega (arith, n.inside, n.built.shape.few)

@@ -8,10 +8,8 @@ use lib.Dec.{leb, eqb, leb→le, eqb→eq}
 use lib.IntN.{ℤ, pos}
 use lib.ListN.{length}
 use borrow.Author.Tests.{le-leb}
-use Rattle.algebra.specs.Limits.{variables, most_nodes, work_places}
-use Rattle.algebra.specs.Sum.{Sum}
-use Rattle.algebra.specs.Accepted.{Accepted}
-use Rattle.answers.specs.Refusals.{ROOM, SHAPE}
+use Rattle.algebra.specs.Limits.{most_nodes, work_places}
+use Rattle.answers.specs.Refusals.{SHAPE}
 use Rattle.answers.specs.Answers.{Told, Told.done, Told.refused, Outcome, outcome}
 use Rattle.answers.specs.Areas.{written, cleared}
 use Rattle.answers.specs.Judge.{Judged, Judged.good, and_then}
