@@ -1,7 +1,8 @@
 # Exported functions, as Rattle writes their heads, one to a line: awk -f .ci/exports.awk with a header of C, or with files of Rattle. So the two can be compared.
 #
 # A slice is a pointer in C and then its length, whose name is the pointer's with _length: 'const uint8_t *text, size_t text_length' is 'text: &[u8]'. What is lent to be written to
-# is '&mut [u8]', and not const in C. A pointer without its length, or a length without a pointer, stays as it is in C, and so is like nothing in Rattle.
+# is '&mut [u8]', and not const in C. A pointer without its length, or a length without a pointer, stays as it is in C, and so is like nothing in Rattle. What C calls `result` is `res` in
+# Rattle, whose contracts have the other word for what a function returns.
 
 function trim(text) {
     gsub(/[ \t]+/, " ", text)
@@ -24,11 +25,13 @@ function argument(this, after,    word, n, shared, name) {
     n = split(this, word, " ")
     if (n != 2 || !(word[1] in rattle)) return this
     name = word[2]
-    if (!sub(/^\*/, "", name)) return name ": " rattle[word[1]]
+    if (!sub(/^\*/, "", name)) return called(name) ": " rattle[word[1]]
     if (after != "size_t " name "_length") return this
     taken = 2
-    return name ": &" (shared ? "" : "mut ") "[" rattle[word[1]] "]"
+    return called(name) ": &" (shared ? "" : "mut ") "[" rattle[word[1]] "]"
 }
+
+function called(name) { return name == "result" ? "res" : name }
 
 function from_c(head,    name, part, n, i, all, returned) {
     returned = head

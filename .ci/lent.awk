@@ -1,8 +1,8 @@
 # What public functions are lent, and what their uniqueness theorems look at: awk -f .ci/lent.awk, with every crates/*/proofs/Unique.antt and then every file of crates/*/src. It
 # prints a line for each public function that has no such theorem, and for each whose theorem does not look at exactly those arguments that are lent to be written to.
 #
-# A theorem is 'pub NAME : One f.Learnt' for a function that is lent nothing, and else 'pub NAME : OneLent f.Learnt (λ k e. (now (e .0), now (e .1 .0)))', where argument n, counted
-# from 0, is e with n times .1 and then .0. Which function f is, the file says: 'use Rattle·CRATE·proofs.proofs.PATH.Reads as f'.
+# A theorem is 'pub NAME : One f.Learnt' for a function that is lent nothing, and else 'pub NAME : OneLent f.Learnt (λ k e. (e.0.now, e.1.0.now))', where argument n, counted from 0, is e
+# with n times .1 and then .0. Which function f is, the file says: 'use Rattle.CRATE.proofs.PATH.Reads as f'.
 
 function crate_of(file) {
     sub(/^crates\//, "", file)
@@ -22,7 +22,7 @@ function listed(set,    i, all) {
 # Which arguments a statement looks at.
 function looked_at(statement,    set, part) {
     split("", set)
-    while (match(statement, /now \(e( \.[01])*\)/)) {
+    while (match(statement, /[( ]e(\.[01])*\.now/)) {
         part = substr(statement, RSTART, RLENGTH)
         statement = substr(statement, RSTART + RLENGTH)
         set[gsub(/\.1/, "", part)] = 1
@@ -49,7 +49,7 @@ FILENAME ~ /\/Unique\.antt$/ {
     end_statement()
     if (/^use .*\.Reads as /) {
         path = $2
-        sub(/^Rattle·[^.]*\.proofs\./, "", path)
+        sub(/^Rattle\.[^.]*\.proofs\./, "", path)
         sub(/\.Reads$/, "", path)
         about[$4] = crate_of(FILENAME) " " path
     }

@@ -8,12 +8,11 @@
 function indent(line) { match(line, /^ */); return RLENGTH }
 
 # Inside are the folders specs/Inside, and the crates that no operation's definition goes by.
-function inside(path) { return path ~ /\.Inside\./ || path ~ /\.Inside$/ || crates != "" && path ~ ("^Rattle·(" crates ")(\\.|·)") }
+function inside(path) { return path ~ /\.Inside\./ || path ~ /\.Inside$/ || crates != "" && path ~ ("^Rattle\\.(" crates ")\\.") }
 
-# Rattle·text·proofs.proofs.Words, and from another crate Rattle·text.proofs.Words: crates/text/proofs/Words.antt
+# Rattle.text.proofs.Words: crates/text/proofs/Words.antt. Rattle's own library has no file here.
 function file_of(path) {
-    sub(/^Rattle·/, "crates/", path)
-    sub(/·(specs|proofs)\./, ".", path)
+    sub(/^Rattle\./, "crates/", path)
     gsub(/\./, "/", path)
     return path ".antt"
 }
@@ -38,13 +37,13 @@ function import(file, line,    path, names, n, part, i, word) {
     }
 }
 
-# A constructor is used without its type, and an operator without its underscores.
+# A constructor is used without its type, and an operator without its marks.
 function add_name(file, name, path, original) {
     if (original ~ /^[^.]+\../) sub(/\..*/, "", original)
     sub(/^[^.]*\./, "", name)
     from[file, name] = path
     called[file, name] = original
-    if (gsub(/_/, "", name) && name != "") {
+    if (gsub(/◌/, "", name) && name != "") {
         from[file, name] = path
         called[file, name] = original
     }
@@ -111,7 +110,7 @@ function load(file,    line, depth, head, margin, heads, heading, i, name, kind,
 }
 
 # What a definition names, and what that names in turn.
-function visit(file, name,    words, n, i, key, word, path, text) {
+function visit(file, name,    words, n, i, key, word, rest, text) {
     key = file SUBSEP name
     if (key in visited) return
     visited[key] = 1
@@ -123,23 +122,22 @@ function visit(file, name,    words, n, i, key, word, path, text) {
         word = words[i]
         sub(/\.$/, "", word)
         if (word == "" || word ~ /^\./) continue
-        if ((file, word) in says) {
-            visit(file, word)
-        } else if ((file, word) in from) {
-            follow(from[file, word], called[file, word], word, file)
-        } else if (word ~ /^[^.]+\../) {
-            # a name of a module that has another name here
-            path = word
-            sub(/\..*/, "", path)
-            sub(/^[^.]*\./, "", word)
-            if ((file, path) in from) follow(from[file, path], word, word, file)
+        # a part of something that is named, or a name of a module that has another name here
+        rest = ""
+        if (!((file, word) in says || (file, word) in from) && word ~ /^[^.]+\../) {
+            rest = word
+            sub(/\..*/, "", word)
+            sub(/^[^.]*\./, "", rest)
         }
+        if ((file, word) in says) visit(file, word)
+        else if ((file, word) in called) follow(from[file, word], called[file, word], word, file)
+        else if ((file, word) in from) follow(from[file, word], rest, rest, file)
     }
 }
 
 function follow(path, name, word, file) {
     if (inside(path)) print theorem ": " word " of " path " (by " file ")"
-    else if (path ~ /^Rattle·.*proofs\./) visit(file_of(path), name)
+    else if (path ~ /^Rattle\.[^.]*\.proofs\./) visit(file_of(path), name)
 }
 
 {

@@ -171,7 +171,7 @@ function finish_edit(    part, n, i, key, name) {
     edit = ""
 }
 
-# ---- Uniqueness theorems: 'pub NAME : One f.Learnt', and 'use Rattle·CRATE·proofs.proofs.PATH.Reads as f'.
+# ---- Uniqueness theorems: 'pub NAME : One f.Learnt', and 'use Rattle.CRATE.proofs.PATH.Reads as f'.
 
 FILENAME ~ /\/Unique\.antt$/ {
     if (/^-- /) {
@@ -180,7 +180,7 @@ FILENAME ~ /\/Unique\.antt$/ {
     }
     if (/^use .*\.Reads as /) {
         path = $2
-        sub(/^Rattle·[^.]*\.proofs\./, "", path)
+        sub(/^Rattle\.[^.]*\.proofs\./, "", path)
         sub(/\.Reads$/, "", path)
         gsub(/\./, "::", path)
         about[crate, $4] = path
@@ -221,26 +221,28 @@ FILENAME ~ /\.rt$/ && head == "" {
 }
 
 FILENAME ~ /\.rt$/ && head != "" {
-    # A `requires` may go on over several lines, up to the brace after its corner.
+    # A `requires` may have a name, and may go on over several lines, up to the brace that closes it.
     if (/^ *requires /) {
         text = $0
-        sub(/^ *requires *\{ *(⌜ *)?/, "", text)
+        sub(/^ *requires *[a-z_0-9]* *\{ */, "", text)
         asking = 1
     } else if (asking) {
         more = $0
         sub(/^ */, "", more)
-        text = text " " more
+        text = joined(text, " ", more)
     }
-    if (asking && /⌝ *\} *$/) {
-        sub(/ *⌝ *\} *$/, "", text)
+    if (asking && closes(text)) {
+        sub(/ *\} *$/, "", text)
         wants = joined(wants, ", ", code(text))
         asking = 0
-    }
-    if (/\{ *$/) {
+    } else if (!asking && /\{ *$/) {
         finish_function()
         head = ""
     }
 }
+
+# Whether a text has one closing brace more than opening ones, so that it ends what a brace has opened.
+function closes(text) { return gsub(/\}/, "}", text) > gsub(/\{/, "{", text) }
 
 function finish_function(    path, key, name, wrong) {
     path = FILENAME

@@ -16,7 +16,7 @@ use Rattle.host.proofs.reeveboom_estimate.Reads as estimate
 use Rattle.host.proofs.reeveboom_write.Reads as write
 
 -- two numbers with their areas are the same
-number-one : {A : Type 0} {n n' : ℕ} {x x' : A} → ◌≡◌ {A = ℕ × A} (n, x) (n', x') → (n ≡ n') × (x ≡ x')
+pub number-one : {A : Type 0} {n n' : ℕ} {x x' : A} → ◌≡◌ {A = ℕ × A} (n, x) (n', x') → (n ≡ n') × (x ≡ x')
 number-one {A} e = (ap (λ (p : ℕ × A). p.0) e, ap (λ (p : ℕ × A). p.1) e)
 
 -- Refused when tried: no byte of the text is read.

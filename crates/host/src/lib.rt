@@ -1,5 +1,5 @@
-// Every operation, for a C host: each exported function does nothing but call the operation, and gives its answer as one number.
-// Begin with `hosted` in specs/Host.antt of `answers`, then with any of the functions; include/reeveboom.h declares them.
+// Every operation, for a C host: each function does nothing but call the operation, and gives its answer as one number.
+// Begin with `hosted` in specs/Host.antt of `answers`, then with any of the functions; `host_c` exports them to C.
 #![tactic(auto)]
 
 ghost use Rattle.std.specs.Prelude.{◌≡◌};
@@ -19,16 +19,14 @@ const HOST_UNIT: u64 = 4294967296;
 // The scope's own unit, for the estimate alone.
 const ESTIMATE_UNIT: u64 = 65536;
 
-#[unsafe(no_mangle)]
-pub extern "C" fn reeveboom_text(text: &[u8], table: &mut [i64]) -> u64
+pub fn reeveboom_text(text: &[u8], table: &mut [i64]) -> u64
     ensures { (result, table.new) ≡ hosted wide_unit (read_formula text.now table.old) }
 {
     text::read_formula(text, table).for_host(HOST_UNIT)
 }
 
 // The result area comes before the work areas here, and after them in the operation.
-#[unsafe(no_mangle)]
-pub extern "C" fn reeveboom_simplify(
+pub fn reeveboom_simplify(
     table: &[i64],
     res: &mut [u8],
     patterns: &mut [u64],
@@ -40,40 +38,27 @@ pub extern "C" fn reeveboom_simplify(
     formula::simplify(table, patterns, coefficients, res).for_host(HOST_UNIT)
 }
 
-#[unsafe(no_mangle)]
-pub extern "C" fn reeveboom_unpack(
-    sum: &[u8],
-    patterns: &mut [u64],
-    coefficients: &mut [i64],
-) -> u64
+pub fn reeveboom_unpack(sum: &[u8], patterns: &mut [u64], coefficients: &mut [i64]) -> u64
     ensures { (result, (patterns.new, coefficients.new))
         ≡ hosted wide_unit (unpack sum.now patterns.old coefficients.old) }
 {
     packed::unpack(sum, patterns, coefficients).for_host(HOST_UNIT)
 }
 
-#[unsafe(no_mangle)]
-pub extern "C" fn reeveboom_pack(
-    count: u64,
-    patterns: &[u64],
-    coefficients: &[i64],
-    res: &mut [u8],
-) -> u64
+pub fn reeveboom_pack(count: u64, patterns: &[u64], coefficients: &[i64], res: &mut [u8]) -> u64
     ensures { (result, res.new) ≡ hosted wide_unit (pack count patterns.now coefficients.now res.old) }
 {
     packed::pack(count as usize, patterns, coefficients, res).for_host(HOST_UNIT)
 }
 
-#[unsafe(no_mangle)]
-pub extern "C" fn reeveboom_slope(sum: &[u8], variable: u64, res: &mut [u8]) -> u64
+pub fn reeveboom_slope(sum: &[u8], variable: u64, res: &mut [u8]) -> u64
     ensures { (result, res.new) ≡ hosted wide_unit (slope sum.now variable res.old) }
 {
     change::slope(sum, variable, res).for_host(HOST_UNIT)
 }
 
 // The result area comes before the work areas here, and after them in the operation.
-#[unsafe(no_mangle)]
-pub extern "C" fn reeveboom_substitute(
+pub fn reeveboom_substitute(
     sum: &[u8],
     list: &[u8],
     res: &mut [u8],
@@ -87,21 +72,14 @@ pub extern "C" fn reeveboom_substitute(
 }
 
 // For the estimate the number is refusal × 65,536 + place.
-#[unsafe(no_mangle)]
-pub extern "C" fn reeveboom_estimate(
-    sum: &[u8],
-    readings: &[u8],
-    tolerances: &[u8],
-    answer: &mut [u8],
-) -> u64
+pub fn reeveboom_estimate(sum: &[u8], readings: &[u8], tolerances: &[u8], answer: &mut [u8]) -> u64
     ensures { (result, answer.new)
         ≡ hosted narrow_unit (router.estimate sum.now readings.now tolerances.now answer.old) }
 {
     router::estimate(sum, readings, tolerances, answer).for_host(ESTIMATE_UNIT)
 }
 
-#[unsafe(no_mangle)]
-pub extern "C" fn reeveboom_write(sum: &[u8], text: &mut [u8]) -> u64
+pub fn reeveboom_write(sum: &[u8], text: &mut [u8]) -> u64
     ensures { (result, text.new) ≡ hosted wide_unit (write_text sum.now text.old) }
 {
     spelling::write_text(sum, text).for_host(HOST_UNIT)

@@ -2,11 +2,11 @@
 // Begin with docs/REPLAY.md, which has the lines, then with `main` and `operations`.
 #![tactic(auto)]
 
-ghost use Rattle.std.specs.Prelude.{◌+◌, ◌≤◌, length};
+ghost use Rattle.std.specs.Prelude.{◌+◌, ◌≤◌, length, IfOk};
 ghost use Rattle.replay.specs.Limits.{most_answer, most_gathered};
 ghost use Rattle.replay.specs.Gathering.{Gathers};
 
-use libc::{STDIN_FILENO, STDOUT_FILENO};
+use std::io::Read;
 
 mod areas;
 mod changes;
@@ -59,23 +59,29 @@ fn add_byte(line: &mut [u8], held: usize, byte: u8) -> usize
 }
 
 // Writes what is gathered when another answer might not find room.
-fn make_room(out: &[u8], gathered: usize) -> usize
+fn make_room(rt: &impl Print, out: &[u8], gathered: usize) -> std::io::Result<usize>
     requires most_gathered_in_bounds { most_gathered ≤ length out.now }
     requires gathered_in_bounds { gathered ≤ length out.now }
-    ensures { result + most_answer ≤ length out.now }
+    ensures { IfOk result (λ left. left + most_answer ≤ length out.now) }
 {
     if gathered > ENOUGH {
-        io::write_all(STDOUT_FILENO, &out[0..gathered]);
-        return 0;
+        rt.write_all(&out[0..gathered])?;
+        return Ok(0);
     }
-    gathered
+    Ok(gathered)
 }
 
 // A piece of the input, byte by byte: at the end of each line its answer is gathered.
-fn take_piece(piece: &[u8], line: &mut [u8], out: &mut [u8], progress: Progress) -> Progress
+fn take_piece(
+    rt: &impl Print,
+    piece: &[u8],
+    line: &mut [u8],
+    out: &mut [u8],
+    progress: Progress,
+) -> std::io::Result<Progress>
     requires most_gathered_in_bounds { most_gathered ≤ length out.old }
     requires gathers { Gathers line.old progress.line out.old progress.gathered }
-    ensures { Gathers line.new result.line out.new result.gathered }
+    ensures { IfOk result (λ come. Gathers line.new come.line out.new come.gathered) }
 {
     let mut held = progress.line;
     let mut gathered = progress.gathered;
@@ -83,7 +89,7 @@ fn take_piece(piece: &[u8], line: &mut [u8], out: &mut [u8], progress: Progress)
     while i < piece.len() {
         if piece[i] == b'\n' {
             let end = operations::answer(&line[0..held], &mut out[gathered..]);
-            gathered = make_room(out, gathered + end);
+            gathered = make_room(rt, out, gathered + end)?;
             held = 0;
             i += 1;
         } else {
@@ -91,16 +97,22 @@ fn take_piece(piece: &[u8], line: &mut [u8], out: &mut [u8], progress: Progress)
             i += 1;
         }
     }
-    Progress {
+    Ok(Progress {
         line: held,
         gathered: gathered,
-    }
+    })
 }
 
 // The input to its end. The pieces are counted down from more than there can be, so that this ends.
-fn replay(piece: &mut [u8], line: &mut [u8], out: &mut [u8]) -> Progress
+fn replay(
+    rt: &impl Print,
+    input: &mut impl Read,
+    piece: &mut [u8],
+    line: &mut [u8],
+    out: &mut [u8],
+) -> std::io::Result<Progress>
     requires { most_gathered ≤ length out.old }
-    ensures { Gathers line.new result.line out.new result.gathered }
+    ensures { IfOk result (λ come. Gathers line.new come.line out.new come.gathered) }
 {
     let mut progress = Progress {
         line: 0,
@@ -108,35 +120,39 @@ fn replay(piece: &mut [u8], line: &mut [u8], out: &mut [u8]) -> Progress
     };
     let mut left: u64 = 18446744073709551615;
     while left > 0 {
-        let length = io::count(libc::read(STDIN_FILENO, piece), piece);
+        let length = input.read(piece)?;
         if length == 0 {
-            return progress;
+            return Ok(progress);
         }
-        progress = take_piece(&piece[0..length], line, out, progress);
+        progress = take_piece(rt, &piece[0..length], line, out, progress)?;
         left -= 1;
     }
-    progress
+    Ok(progress)
 }
 
 // A last line without a newline is ended by one.
-fn finish(line: &mut [u8], out: &mut [u8], progress: Progress)
+fn finish(
+    rt: &impl Print,
+    line: &mut [u8],
+    out: &mut [u8],
+    progress: Progress,
+) -> std::io::Result<()>
     requires most_gathered_in_bounds { most_gathered ≤ length out.old }
     requires gathers { Gathers line.old progress.line out.old progress.gathered }
 {
     if progress.line > 0 {
-        let ended = take_piece(b"\n", line, out, progress);
+        let ended = take_piece(rt, b"\n", line, out, progress)?;
         let all = ended.gathered;
-        io::write_all(STDOUT_FILENO, &out[0..all]);
-        return;
+        return rt.write_all(&out[0..all]);
     }
     let gathered = progress.gathered;
-    io::write_all(STDOUT_FILENO, &out[0..gathered]);
+    rt.write_all(&out[0..gathered])
 }
 
-fn main() {
+fn main(rt: HostRuntime) -> std::io::Result<()> {
     let mut piece = io::large_buffer();
     let mut line = areas::line();
     let mut out = areas::answers();
-    let progress = replay(&mut piece, &mut line, &mut out);
-    finish(&mut line, &mut out, progress);
+    let progress = replay(&rt, &mut rt.stdin(), &mut piece, &mut line, &mut out)?;
+    finish(&rt, &mut line, &mut out, progress)
 }

@@ -109,14 +109,8 @@ pub fn estimate(sum: &[u8], readings: &[u8], tolerances: &[u8], answer: &mut [u8
     estimate_terms(&sp[0..n], &sc[0..n], readings, tolerances, answer)
 }
 
-// The same for a C host: 16 if it is done, else refusal × 65,536 + place.
-#[unsafe(no_mangle)]
-pub extern "C" fn reeveboom_estimate(
-    sum: &[u8],
-    readings: &[u8],
-    tolerances: &[u8],
-    answer: &mut [u8],
-) -> u64
+// The same for a C host: 16 if it is done, else refusal × 65,536 + place. `router_c` exports it to C.
+pub fn reeveboom_estimate(sum: &[u8], readings: &[u8], tolerances: &[u8], answer: &mut [u8]) -> u64
     ensures { (result, answer.new)
         ≡ hosted narrow_unit (estimate sum.now readings.now tolerances.now answer.old) }
 {

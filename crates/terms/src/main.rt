@@ -2,15 +2,18 @@
 #![tactic(auto)]
 
 use answers::Answer;
-use libc::{STDIN_FILENO, STDOUT_FILENO};
+use std::io;
+use std::io::Read;
 
-fn main() {
-    let mut input = [0u8; listing::MOST_INPUT];
-    let length = io::read_full(STDIN_FILENO, &mut input);
+fn main(rt: HostRuntime) -> io::Result<()> {
+    let mut input = Vec::new(rt.alloc());
+    rt.stdin()
+        .take(listing::MOST_INPUT as u64)
+        .read_to_end(&mut input)?;
     let mut lines = [0u8; listing::MOST_LINES];
-    let answer = listing::list(&input[..length], &mut lines);
+    let answer = listing::list(&input, &mut lines);
     let Answer::Done(end) = answer else {
-        return;
+        return Ok(());
     };
-    io::write_all(STDOUT_FILENO, &lines[..end]);
+    rt.write_all(&lines[..end])
 }

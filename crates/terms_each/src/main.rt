@@ -5,7 +5,11 @@
 ghost use Rattle.std.specs.Prelude.{◌≤◌, length};
 
 use answers::Answer;
-use libc::{STDIN_FILENO, STDOUT_FILENO};
+use std::io;
+use std::io::Read;
+
+// So much of the input is taken.
+const MOST_INPUT: u64 = 65536;
 
 // Where the line that begins at a place ends: at its newline, or with the input.
 fn end_of_line(input: &[u8], start: usize) -> usize
@@ -22,26 +26,27 @@ fn end_of_line(input: &[u8], start: usize) -> usize
     end
 }
 
-fn print_terms(formula: &[u8]) {
+fn print_terms(rt: &impl Print, formula: &[u8]) -> io::Result<()> {
     let mut lines = [0u8; listing::MOST_LINES];
     let answer = listing::list(formula, &mut lines);
     let Answer::Done(end) = answer else {
-        return;
+        return Ok(());
     };
-    io::write_all(STDOUT_FILENO, &lines[..end]);
+    rt.write_all(&lines[..end])
 }
 
-fn print_each(input: &[u8]) {
+fn print_each(rt: &impl Print, input: &[u8]) -> io::Result<()> {
     let mut start = 0;
     while start < input.len() {
         let end = end_of_line(input, start);
-        print_terms(&input[start..end]);
+        print_terms(rt, &input[start..end])?;
         start = end + 1;
     }
+    Ok(())
 }
 
-fn main() {
-    let mut input = io::large_buffer();
-    let length = io::read_full(STDIN_FILENO, &mut input);
-    print_each(&input[..length]);
+fn main(rt: HostRuntime) -> io::Result<()> {
+    let mut input = Vec::new(rt.alloc());
+    rt.stdin().take(MOST_INPUT).read_to_end(&mut input)?;
+    print_each(&rt, &input)
 }
