@@ -1,0 +1,13 @@
+-- `fill_signed` meets its contract: the loop keeps `Filled`.
+use Prim.Native.Nat.{◌-◌}
+use lib.IntN.{pos}
+use lib.ListN.{length}
+use Rattle.replay.specs.Filling.{filled_signed}
+use Rattle.replay.proofs.Holding.{Filled}
+use Rattle.replay.proofs.filling.fill_signed.Given as goal
+
+abbrev pub invariant-loop-i : goal.invariant-loop-i
+invariant-loop-i l = Filled (pos 0) filled_signed l.initial.area l.area l.i
+
+abbrev pub decreases-loop-i : goal.decreases-loop-i
+decreases-loop-i l = length l.initial.area - l.i

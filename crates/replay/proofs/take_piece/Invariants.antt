@@ -1,0 +1,12 @@
+-- `take_piece` meets its contract: after each line there is room for another answer.
+use mathlib.Core.Path.{◌≡◌}
+use Prim.Native.Nat.{◌-◌, ◌≤◌}
+use lib.ListN.{length}
+use Rattle.replay.specs.Gathering.{Gathers}
+use Rattle.replay.proofs.take_piece.Given as goal
+
+abbrev pub invariant-loop-i : goal.invariant-loop-i
+invariant-loop-i l = (l.gathered ≤ length l.rt) × (length l.initial.i ≡ length l.piece) × (length l.line ≡ length l.initial.line) × Gathers l.initial.i l.out l.line l.held
+
+abbrev pub decreases-loop-i : goal.decreases-loop-i
+decreases-loop-i l = length l.rt - l.gathered
