@@ -6,7 +6,7 @@ use Rattle.replay.specs.Gathering.{Gathers}
 use Rattle.replay.proofs.take_piece.Given as goal
 
 abbrev pub invariant-loop-i : goal.invariant-loop-i
-invariant-loop-i l = (l.gathered ≤ length l.rt) × (length l.initial.i ≡ length l.piece) × (length l.line ≡ length l.initial.line) × Gathers l.initial.i l.out l.line l.held
+invariant-loop-i l = (l.i ≤ length l.piece) × (length l.line ≡ length l.initial.line) × (length l.out ≡ length l.initial.out) × Gathers l.line l.held l.out l.gathered
 
 abbrev pub decreases-loop-i : goal.decreases-loop-i
-decreases-loop-i l = length l.rt - l.gathered
+decreases-loop-i l = length l.piece - l.i
