@@ -5,7 +5,7 @@ use Rattle.replay.specs.Gathering.{Gathers}
 use Rattle.replay.proofs.replay.Given as goal
 
 abbrev pub invariant-loop-left : goal.invariant-loop-left
-invariant-loop-left l = (length l.piece ≡ length l.initial.piece) × (length l.line ≡ length l.initial.line) × (length l.out ≡ length l.initial.out) × Gathers l.line l.progress.line l.out l.progress.gathered
+invariant-loop-left g l = (length l.piece ≡ length l.initial.piece) × (length l.line ≡ length l.initial.line) × (length l.out ≡ length l.initial.out) × Gathers l.line l.progress.line l.out l.progress.gathered
 
 abbrev pub decreases-loop-left : goal.decreases-loop-left
-decreases-loop-left l = l.left
+decreases-loop-left g l = l.left

@@ -6,7 +6,7 @@ use Rattle.replay.specs.Gathering.{Gathers}
 use Rattle.replay.proofs.take_piece.Given as goal
 
 abbrev pub invariant-loop-i : goal.invariant-loop-i
-invariant-loop-i l = (l.i ≤ length l.piece) × (length l.line ≡ length l.initial.line) × (length l.out ≡ length l.initial.out) × Gathers l.line l.held l.out l.gathered
+invariant-loop-i g l = (l.i ≤ length l.piece) × (length l.line ≡ length l.initial.line) × (length l.out ≡ length l.initial.out) × Gathers l.line l.held l.out l.gathered
 
 abbrev pub decreases-loop-i : goal.decreases-loop-i
-decreases-loop-i l = length l.piece - l.i
+decreases-loop-i g l = length l.piece - l.i

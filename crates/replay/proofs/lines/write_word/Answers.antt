@@ -4,4 +4,6 @@ use Rattle.replay.proofs.Hexing.{few-digits, word-digits}
 use Rattle.replay.proofs.lines.write_word.Goals as goal
 
 pub returns-clause-out_after : goal.returns-clause-out_after
-returns-clause-out_after c = let few = few-digits 16 16 _ _ 16 c.hex-length.ensures.1.0 (omega arith) (omega arith) (omega arith) in (word-digits _ _ _ c.hex-length.result c.hex-length.new.?IDX1.1.0 (omega (arith, few, c.hex-length.ensures.1.0.0)) c.hex-length.ensures.1.1 c.write_bytes.ensures.value c.write_bytes.ensures.area_after).1
+returns-clause-out_after c =
+    let few = few-digits 16 16 _ _ 16 c.hex-length.ensures.len (omega arith) (omega arith) (omega arith) in
+    (word-digits _ _ _ c.hex-length.result c.hex-length.new.out (omega (arith, few, c.hex-length.ensures.len.0)) c.hex-length.ensures.digits c.write_bytes.ensures.value c.write_bytes.ensures.area_after).1
