@@ -1,5 +1,4 @@
 use mathlib.Core.Path.{refl}
-use Prim.Native.Nat.{◌-◌}
 use native.Mathlib.Omega.{arith}
 use lib.ListN.{length-set, get_or}
 use Rattle.replay.proofs.Hexing.{hex-start, hex-room, hex-again, hex-ended, two-set}

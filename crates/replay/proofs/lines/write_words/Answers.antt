@@ -1,5 +1,4 @@
 use mathlib.Core.Path.{refl}
-use Prim.Native.Nat.{◌-◌}
 use Rattle.replay.proofs.Hexing.{hex-start, hex-room, hex-again, hex-ended}
 use Rattle.replay.proofs.lines.write_words.Goals as goal
 
