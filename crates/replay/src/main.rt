@@ -2,7 +2,7 @@
 // Begin with docs/REPLAY.md, which has the lines, then with `main` and `operations`.
 #![tactic(auto)]
 
-ghost use Rattle.std.specs.Prelude.{◌+◌, ◌≤◌, length, IfOk};
+ghost use Rattle.std.specs.Prelude.{◌≡◌, ◌+◌, ◌≤◌, length, IfOk, IfErr};
 ghost use Rattle.replay.specs.Limits.{most_answer, most_gathered};
 ghost use Rattle.replay.specs.Gathering.{Gathers};
 
@@ -58,7 +58,8 @@ fn add_byte(line: &mut [u8], held: usize, byte: u8) -> usize
     held
 }
 
-// Writes what is gathered when another answer might not find room.
+// Writes what is gathered when another answer might not find room. (A read or a write that fails ends the program; the areas then keep their lengths, and
+// nothing more is said of them.)
 fn make_room(rt: &impl Print, out: &[u8], gathered: usize) -> std::io::Result<usize>
     requires most_gathered_in_bounds { most_gathered ≤ length out.now }
     requires gathered_in_bounds { gathered ≤ length out.now }
@@ -81,7 +82,8 @@ fn take_piece(
 ) -> std::io::Result<Progress>
     requires most_gathered_in_bounds { most_gathered ≤ length out.old }
     requires gathers { Gathers line.old progress.line out.old progress.gathered }
-    ensures { IfOk result (λ come. Gathers line.new come.line out.new come.gathered) }
+    ensures ok { IfOk result (λ come. Gathers line.new come.line out.new come.gathered) }
+    ensures err { IfErr result (λ e. (length line.new ≡ length line.old) × (length out.new ≡ length out.old)) }
 {
     let mut held = progress.line;
     let mut gathered = progress.gathered;
@@ -112,7 +114,8 @@ fn replay(
     out: &mut [u8],
 ) -> std::io::Result<Progress>
     requires { most_gathered ≤ length out.old }
-    ensures { IfOk result (λ come. Gathers line.new come.line out.new come.gathered) }
+    ensures ok { IfOk result (λ come. Gathers line.new come.line out.new come.gathered) }
+    ensures err { IfErr result (λ e. (length line.new ≡ length line.old) × (length out.new ≡ length out.old)) }
 {
     let mut progress = Progress {
         line: 0,
@@ -139,6 +142,7 @@ fn finish(
 ) -> std::io::Result<()>
     requires most_gathered_in_bounds { most_gathered ≤ length out.old }
     requires gathers { Gathers line.old progress.line out.old progress.gathered }
+    ensures { IfErr result (λ e. (length line.new ≡ length line.old) × (length out.new ≡ length out.old)) }
 {
     if progress.line > 0 {
         let ended = take_piece(rt, b"\n", line, out, progress)?;

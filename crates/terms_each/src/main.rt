@@ -2,14 +2,14 @@
 // bytes only, and the last line as far as it goes.
 #![tactic(auto)]
 
-ghost use Rattle.std.specs.Prelude.{◌≤◌, length};
+ghost use Rattle.std.specs.Prelude.{◌≡◌, ◌≤◌, length, IfOk, IfErr};
 
 use answers::Answer;
 use std::io;
 use std::io::Read;
 
 // So much of the input is taken.
-const MOST_INPUT: u64 = 65536;
+const MOST_INPUT: usize = 65536;
 
 // Where the line that begins at a place ends: at its newline, or with the input.
 fn end_of_line(input: &[u8], start: usize) -> usize
@@ -45,8 +45,24 @@ fn print_each(rt: &impl Print, input: &[u8]) -> io::Result<()> {
     Ok(())
 }
 
+// Reads until the area is full or the input ends, and answers how many bytes stand in its first places.
+fn read_full(input: &mut impl Read, area: &mut [u8]) -> io::Result<usize>
+    ensures ok { IfOk result (λ n. n ≤ length area.new) }
+    ensures err { IfErr result (λ e. length area.new ≡ length area.old) }
+{
+    let mut done = 0;
+    while done < area.len() {
+        let more = input.read(&mut area[done..])?;
+        if more == 0 {
+            break;
+        }
+        done += more;
+    }
+    Ok(done)
+}
+
 fn main(rt: HostRuntime) -> io::Result<()> {
-    let mut input = Vec::new(rt.alloc());
-    rt.stdin().take(MOST_INPUT).read_to_end(&mut input)?;
-    print_each(&rt, &input)
+    let mut input = [0u8; MOST_INPUT];
+    let length = read_full(&mut rt.stdin(), &mut input)?;
+    print_each(&rt, &input[..length])
 }
