@@ -6,7 +6,6 @@ use lib.IntN.{ℤ}
 use lib.ListN.{get_or}
 use Rattle.algebra.specs.Limits.{variables}
 use Rattle.algebra.specs.Sum.{Sum}
-use Rattle.algebra.specs.Value.{value}
 use Rattle.answers.specs.Judge.{Judged.good}
 use Rattle.answers.proofs.Writes.{written-front}
 use Rattle.packed.specs.Packed.{packed}

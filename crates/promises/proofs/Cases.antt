@@ -1,15 +1,10 @@
 -- Document 01's cases hold: the checker computes each.
-use mathlib.Core.Path.{◌≡◌, refl}
-use mathlib.Core.Bool.{Bool, true, false}
-use mathlib.Core.List.{List, [], ◌∷◌}
-use Prim.Native.Nat.{ℕ, ◌+◌, ◌-◌, ◌*◌, ◌^◌}
-use Prim.Native.String.{String}
-use lib.IntN.{ℤ, pos, negsuc, one, pow}
-use lib.ListN.{get_or, length}
-use Rattle.algebra.specs.Limits.{variables}
+use mathlib.Core.Path.{refl}
+use Prim.Native.Nat.{ℕ}
+use lib.IntN.{one, pow}
 use Rattle.algebra.specs.Pattern as pattern
 use Rattle.algebra.specs.Pattern.{degree, same, then_by, by_powers, order}
-use Rattle.algebra.specs.Sum.{Sum, degree_of, weight}
+use Rattle.algebra.specs.Sum.{degree_of, weight}
 use Rattle.algebra.specs.Collect.{settle, insert, gather, keep, drop_zeros, collect, occurs, count_new, spread}
 use Rattle.algebra.specs.Arithmetic as arithmetic
 use Rattle.algebra.specs.Arithmetic.{row, pairs, ◌⊕◌, sum_spread, ◌⊗◌, product_spread, power_spread}
@@ -19,8 +14,7 @@ use Rattle.algebra.specs.Substitute.{rows, pair_rows, pair_degree, pair_weight, 
 use Rattle.algebra.specs.Value.{total, pattern_value, value}
 use Rattle.algebra.specs.Margin as algebra
 use Rattle.algebra.specs.Margin.{pattern_size, unsigned, raised_by, margin}
-use Rattle.answers.specs.Refusals.{DEGREE, WEIGHT, SPREAD, SUM, READING, RANGE, TEXT}
-use Rattle.answers.specs.Judge.{Judged, Judged.good, Judged.fails, holding, and_then}
+use Rattle.answers.specs.Judge.{holding, and_then}
 use Rattle.answers.specs.Quoted.{quoted}
 use Rattle.answers.proofs.Tables.{◌also◌}
 use Rattle.answers.specs.Promised.{Each}
@@ -31,14 +25,13 @@ use Rattle.packed.specs.Packed.{exponent_bytes, term_bytes, bytes_of_terms, pack
 use Rattle.packed.specs.Judge.{weighs, follows}
 use Rattle.packed.specs.ReadSum as packed-sum
 use Rattle.packed.specs.ReadSum.{read_coefficient, read_exponents, read_terms}
-use Rattle.packed.specs.Whole.{judged}
 use Rattle.nodes.specs.Node.{table_of, is_in, is_kind, read_node}
 use Rattle.nodes.specs.Formal.{formal_degree, formal_weight, node_spread, node_sum}
 use Rattle.formula.specs.Table.{judge_node, judge_nodes, is_shape, judge_table}
 use Rattle.formula.specs.Simplify.{table_sum}
 use Rattle.text.specs.Signs.{is_digit}
 use Rattle.text.specs.Letters.{letter_of}
-use Rattle.text.specs.Tree.{Tree, Tree.number, Tree.letter, Tree.plus, Tree.times, Tree.raised, Tree.minus, node_count, nodes_of}
+use Rattle.text.specs.Tree.{node_count, nodes_of}
 use Rattle.text.specs.Reader.{takes, more_digits, digits_at, read_atom, read_exponent, read_factor, read_more, is_times, read_term, is_sign, signed, after_minus, read_sum, in_brackets, read_whole}
 use Rattle.text.specs.Text.{judge_text, text_sum}
 use Rattle.change.specs.Slope.{judge_slope}
@@ -46,7 +39,7 @@ use Rattle.change.specs.Pairs.{read_pairs, read_list}
 use Rattle.change.specs.Substitute.{judge_pair, judge_pairs, judge_substitute}
 use Rattle.numbers.specs.Bytes.{plain_number, signed_number, plain_bytes, signed_bytes}
 use Rattle.estimates.specs.Readings.{two_byte_numbers, spelled, before_negative, judge_readings}
-use Rattle.estimates.specs.Range.{Estimate, judge_range, judge_terms}
+use Rattle.estimates.specs.Range.{judge_range, judge_terms}
 use Rattle.router.specs.Estimate.{judge_estimate}
 use Rattle.promises.specs.Cases.{made, Says, cases, further}
 

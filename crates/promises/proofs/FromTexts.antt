@@ -3,7 +3,6 @@ use mathlib.Core.Path.{◌≡◌, sym, ◌∙◌, ap}
 use mathlib.Core.Bool.{Bool, true, false}
 use mathlib.Core.List.{List, []}
 use Prim.Native.Nat.{ℕ, ◌≤◌}
-use native.Mathlib.Omega.{arith}
 use borrow.Author.Tests.{le-leb}
 use lib.Dec.{leb}
 use lib.IntN.{ℤ, pos}
@@ -11,7 +10,7 @@ use lib.ListN.{length}
 use Rattle.algebra.specs.Limits.{most_nodes, work_places}
 use Rattle.algebra.specs.Sum.{Sum}
 use Rattle.answers.specs.Refusals.{ROOM}
-use Rattle.answers.specs.Answers.{Told.done, Told.refused, Outcome, outcome, check}
+use Rattle.answers.specs.Answers.{Told.refused, Outcome, outcome, check}
 use Rattle.answers.specs.Areas.{cleared}
 use Rattle.answers.specs.Judge.{Judged, Judged.good, Judged.fails, holding, and_then}
 use Rattle.answers.proofs.Judging.{then-good, then-fails, refused-done}

@@ -9,7 +9,6 @@ use lib.ListN.{length, get_or}
 use Rattle.algebra.specs.Limits.{variables, most_nodes}
 use Rattle.algebra.specs.Sum.{Sum}
 use Rattle.algebra.specs.Accepted.{Accepted}
-use Rattle.answers.specs.Areas.{written}
 use Rattle.answers.proofs.Writes.{written-front}
 use Rattle.packed.specs.Packed.{packed}
 use Rattle.formula.specs.Simplify.{simplify}

@@ -1,10 +1,10 @@
 -- Demand 3, worked once from the typed formula on: where a is from 9 to 11 and b from 1 to 5, (a+b)^2-b^2 lies in 89..231.
-use mathlib.Core.Path.{◌≡◌, refl, sym, ◌∙◌, ap}
+use mathlib.Core.Path.{◌≡◌, refl}
 use mathlib.Core.List.{List, [], ◌∷◌}
-use Prim.Native.Nat.{ℕ, ◌+◌, ◌*◌, ◌≤◌}
+use Prim.Native.Nat.{ℕ, ◌*◌}
 use native.Mathlib.Omega.{arith}
-use lib.IntN.{ℤ, pos, negsuc, nat_abs, pow, one, ◌+ℤ◌, ◌-ℤ◌}
-use lib.ListN.{length, take, replicate, length-replicate}
+use lib.IntN.{ℤ, pos, pow, one, ◌+ℤ◌, ◌-ℤ◌}
+use lib.ListN.{length, replicate, length-replicate}
 use lib.Signed.{◌≤ℤ◌}
 use Rattle.algebra.specs.Limits.{variables, work_places}
 use Rattle.algebra.specs.Pattern as pattern
@@ -19,7 +19,7 @@ use Rattle.algebra.specs.Margin.{pattern_size, unsigned, raised_by, margin, With
 use Rattle.algebra.proofs.Numbers.Whole.{between-abs}
 use Rattle.answers.specs.Answers.{Told.done, outcome}
 use Rattle.answers.specs.Areas.{written}
-use Rattle.answers.specs.Judge.{Judged.good, holding, and_then}
+use Rattle.answers.specs.Judge.{holding, and_then}
 use Rattle.answers.specs.Quoted.{quoted}
 use Rattle.answers.proofs.Writes.{written-front}
 use Rattle.numbers.specs.Item as item
@@ -29,8 +29,8 @@ use Rattle.packed.specs.Packed.{exponent_bytes, term_bytes, bytes_of_terms, pack
 use Rattle.packed.specs.Judge.{weighs, follows}
 use Rattle.packed.specs.ReadSum as packed-sum
 use Rattle.packed.specs.ReadSum.{read_coefficient, read_exponents, read_terms}
-use Rattle.packed.specs.Result.{packed_into, beside}
-use Rattle.packed.specs.Promised.{WorkRoom, cleared_with}
+use Rattle.packed.specs.Result.{packed_into}
+use Rattle.packed.specs.Promised.{cleared_with}
 use Rattle.packed.proofs.Working.{worked, with-room}
 use Rattle.nodes.specs.Node.{table_of, is_in, is_kind, read_node}
 use Rattle.nodes.specs.Formal.{formal_degree, formal_weight, node_spread, node_sum}
@@ -41,7 +41,6 @@ use Rattle.text.specs.Letters.{letter_of}
 use Rattle.text.specs.Tree.{Tree, Tree.letter, Tree.plus, Tree.raised, Tree.minus, node_count, nodes_of, tree_value}
 use Rattle.text.specs.Grammar.{Formula}
 use Rattle.text.specs.Reader.{takes, more_digits, digits_at, read_atom, read_exponent, read_factor, read_more, is_times, read_term, is_sign, signed, after_minus, read_sum, in_brackets, read_whole}
-use Rattle.text.specs.Promised.{Typed}
 use Rattle.text.proofs.Formulas.{formula-read}
 use Rattle.text.proofs.Typing.{typed-accepts}
 use Rattle.numbers.specs.Bytes.{plain_number, signed_number, plain_bytes, signed_bytes}

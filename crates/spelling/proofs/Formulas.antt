@@ -13,6 +13,7 @@ use Rattle.algebra.specs.Accepted.{Accepted}
 use Rattle.packed.proofs.Good.{Fit, weighs-light, Good, Good.more, accepted-good}
 use Rattle.text.specs.Limits.{largest_number, largest_exponent}
 use Rattle.text.specs.Letters.{Letter.names, letter_of, name_of}
+use Rattle.text.specs.Signs.{times_sign}
 use Rattle.text.specs.Tree as tree
 use Rattle.text.specs.Tree.{Tree}
 use Rattle.text.specs.Grammar.{Level.sum, Level.term, Level.factor, Is, Is.first, Is.minus, Is.plus, Is.less, Is.single, Is.times, Is.plain, Is.power, Is.number, Is.letter}
@@ -59,8 +60,8 @@ module _ {l : ℕ} where
   powers-term : {w : List ℕ} {t : Tree} (fs : List Power) → Is term l w t → EachNamed fs → EachLow fs → Is term l (w ++ more_powers fs) (times_powers t fs)
   unfolding more_powers times_powers
   powers-term [] d named low = rw append-nil d
-  powers-term {w} (f ∷ fs) d named low =
-      rw append_assoc at (powers-term fs (times d (power-factor f named.0 low.0)) named.1 low.1)
+  powers-term {w} {t} (f ∷ fs) d named low =
+      rw append_assoc at (powers-term {w = w ++ (times_sign ∷ power_text f)} {t = tree.Tree.times t (power_tree f)} fs (times d (power-factor f named.0 low.0)) named.1 low.1)
 
   factors-term : (c : ℕ) (fs : List Power) → c ≤ largest_number → EachNamed fs → EachLow fs → Is term l (factors_text c fs) (factors_tree c fs)
   unfolding factors_text factors_tree
@@ -94,7 +95,8 @@ module _ {l : ℕ} where
     terms-sum : {w : List ℕ} {u : Tree} {before : Sum} (s : Sum) → Is sum l w u → Good n before s → Named s → Is sum l (w ++ more_terms s) (plus_terms u s)
     unfolding more_terms next_text plus_terms term_tree
     terms-sum [] d g named = rw append-nil d
-    terms-sum (t ∷ s) d (more f g) named = rw append_assoc at (terms-sum s (next-signed t.coefficient d (term_is t f named.0)) g named.1)
+    terms-sum {w = w} {u = u} {before = before} (t ∷ s) d (more f g) named =
+        rw append_assoc at (terms-sum {w = ◌++◌ {A = ℕ} w (next_sign t.coefficient ∷ term_text t)} s (next-signed t.coefficient d (term_is t f named.0)) g named.1)
 
     sum_is : (s : Sum) → Good n [] s → Named s → Is sum l (sum_text s) (sum_tree s)
     unfolding sum_text first_text sum_tree term_tree

@@ -49,7 +49,7 @@ module _ (top : ℕ) where
   -- a number begins with a digit
   pub numeral-first : {r : List ℕ} {i y v : ℕ} {w : List ℕ} → Numeral top w v → WordAt r i y w → is_digit (byte_at r i) ≡ true
   numeral-first (digit {d = d} h) a = rw (stands-first a) (digit-is (zero_digit + d) (omega arith) (omega arith))
-  numeral-first {i = i} (longer {w = w} {d = d} n h k l) a = numeral-first n (stands-front i w ((zero_digit + d) ∷ []) a)
+  numeral-first {i = i} {y = y} (longer {w = w} {d = d} n h k l) a = numeral-first {y = i + length w} n (stands-front i w ((zero_digit + d) ∷ []) a)
 
   -- of r, and of s too
   module _ (s r : List ℕ) where
@@ -59,10 +59,10 @@ module _ (top : ℕ) where
     digits-so-far {i} (digit {d = d} h) a agree =
         let value : byte_at s i - zero_digit ≡ d = omega (arith, agree i (omega (arith, digits-ahead top s i)), stands-first a) in
         rw (a.end, value)
-    digits-so-far {i} (longer {w = w} {v = v} {d = d} n h k l) a agree =
+    digits-so-far {i} {y = y} (longer {w = w} {v = v} {d = d} n h k l) a agree =
         let x : ℕ = i + length w in
         let back = stands-back i w ((zero_digit + d) ∷ []) a in
-        let so_far = digits-so-far n (stands-front i w ((zero_digit + d) ∷ []) a) agree in
+        let so_far = digits-so-far {y = i + length w} n (stands-front i w ((zero_digit + d) ∷ []) a) agree in
         let at = agree x (omega (arith, ap (λ (m : Digits). m.next) so_far, more-ahead top v x (drop x s))) ∙ stands-first back in
         let value : zero_digit + d - zero_digit ≡ d = omega arith in
         let t : Takes top v (zero_digit + d) = record { some = h; digit = digit-is (zero_digit + d) (omega arith) (omega arith); within = rw value l } in

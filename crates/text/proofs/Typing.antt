@@ -1,21 +1,19 @@
 -- Reading a typed formula, as its caller sees it: exactly when it is done, with which nodes, and exactly when it is refused, and how.
 use mathlib.Core.Path.{◌≡◌, refl, sym, subst}
 use mathlib.Core.List.{List}
-use Prim.Native.Nat.{ℕ, ◌≤◌, ◌<◌}
+use Prim.Native.Nat.{ℕ, ◌≤◌}
 use native.Mathlib.Omega.{arith}
 use lib.Dec.{leb}
 use lib.IntN.{ℤ}
 use lib.ListN.{length}
 use borrow.Author.Tests.{leb-true, leb-false}
 use Rattle.algebra.specs.Limits.{most_nodes}
-use Rattle.answers.specs.Refusals.{ROOM, TEXT, NODES}
 use Rattle.answers.specs.Answers.{Told, Told.done, Told.refused, Outcome, outcome}
 use Rattle.answers.specs.Areas.{written}
 use Rattle.answers.specs.Judge.{Judged, Judged.good, Judged.fails}
 use Rattle.nodes.specs.Node.{table_of}
 use Rattle.text.specs.Limits.{longest_text, table_places}
 use Rattle.text.specs.Tree.{Tree, node_count, nodes_of}
-use Rattle.text.specs.Grammar.{Formula}
 use Rattle.text.specs.Reader.{read_whole}
 use Rattle.text.specs.Text.{read_formula}
 use Rattle.text.specs.Promised.{Typed, TextRefuses, TextRefuses.no_room, TextRefuses.too_long, TextRefuses.no_formula, TextRefuses.too_many}
