@@ -2,18 +2,17 @@
 use mathlib.Core.Path.{◌≡◌, refl, sym, ap, ◌∙◌}
 use mathlib.Core.Bool.{Bool, true, false, ◌&&◌}
 use mathlib.Core.List.{List, []}
-use Prim.Native.Nat.{ℕ, ◌*◌, ◌≤◌, ◌<◌}
+use Prim.Native.Nat.{ℕ, ◌*◌, ◌<◌}
 use native.Mathlib.Omega.{arith}
 use lib.Dec.{eqb, leb}
 use lib.IntN.{ℤ, pos}
-use lib.ListN.{length, get_or, drop, take, length-append, length-map}
-use borrow.Author.Tests.{eqb-true, leb-true}
+use lib.ListN.{length, get_or, take, length-append, length-map}
 use Rattle.algebra.specs.Limits.{variables, most_terms, work_places}
 use Rattle.algebra.specs.Sum.{Sum}
 use Rattle.algebra.specs.Held.{words_of, coefficients_of, first_terms}
 use Rattle.answers.specs.Refusals.{ROOM, SHAPE, SUM}
-use Rattle.answers.specs.Answers.{Told, Told.done, Told.refused, Outcome, outcome, check}
-use Rattle.answers.specs.Areas.{written, cleared}
+use Rattle.answers.specs.Answers.{Told, Outcome, outcome, check}
+use Rattle.answers.specs.Areas.{cleared}
 use Rattle.answers.specs.Host.{hosted, narrow_unit, heard}
 use Rattle.answers.specs.Judge.{Judged, Judged.good, Judged.fails}
 use Rattle.packed.specs.Packed.{packed, most_bytes}
