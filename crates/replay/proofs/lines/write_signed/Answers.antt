@@ -6,6 +6,7 @@ use lib.ListN.{length, get_or, length-map, get_or-map}
 use mir.Syntax.{w64}
 use mir.Val.{SFits, of_z, to_z}
 use mir.ValLaws.{to_z-of_z}
+use Rattle.std.proofs.Common.{rules}
 use Rattle.replay.specs.Hex.{bits_of}
 use Rattle.replay.proofs.Hexing.{hex-start, hex-room, hex-again, hex-ended}
 use Rattle.replay.proofs.lines.write_signed.Goals as goal
@@ -27,7 +28,7 @@ pub write_word-place-requires : goal.write_word-place-requires
 write_word-place-requires c = hex-room 16 _ c.loop-i.invariant (as_many c.args.words.now c.loop-i-test.true)
 
 pub loop-i-preserved : goal.loop-i-preserved
-loop-i-preserved c = hex-again 16 _ c.loop-i.invariant _ (bits_at c.args.words.now c.loop-i.i _ (record { sfits = c.n-1.given }) c.bits_of.ensures) (as_many c.args.words.now c.loop-i-test.true) c.write_word-place.ensures.value c.write_word-place.ensures.out_after
+loop-i-preserved c = hex-again 16 _ c.loop-i.invariant _ (bits_at c.args.words.now c.loop-i.i _ (search rules) c.bits_of.ensures) (as_many c.args.words.now c.loop-i-test.true) c.write_word-place.ensures.value c.write_word-place.ensures.out_after
 
 pub returns-clause-value : goal.returns-clause-value
 returns-clause-value c = let m = many c.args.words.now in
