@@ -15,7 +15,7 @@ module _ {K : Type 0} {Arguments Result Exit : K → Type 0} (learnt : (k : K) �
   abbrev pub One : Type 0
   One = Outcomes (λ k r r' e e'. r ≡ r')
 
-  -- of one that is lent areas, what they hold after the call too: `λ k e. now e.0` for the first argument, `(now e.0, now e.1.0)` for two
+  -- of one that is lent areas, what they hold after the call too: `λ k e. e.0.now` for the first argument, `(e.0.now, e.1.0.now)` for two
   abbrev pub OneLent : {L : Type 0} → ((k : K) → Exit k → L) → Type 0
   OneLent area = Outcomes (λ k r r' e e'. (r ≡ r') × (area k e ≡ area k e'))
 

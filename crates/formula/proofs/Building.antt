@@ -201,7 +201,7 @@ module _ {table : List ℤ} {ws₀ : List ℕ} {cs₀ : List ℤ} {nodes : ℕ} 
   spelled = read-says i (numbers_at i table) refl n.read
 
   pub node-is : T (is_node i k)
-  node-is = spelled.is_node
+  node-is = spelled.node_is
 
   is-next : T (is_node (length n.built.es) k)
   is-next = rw n.built.count node-is

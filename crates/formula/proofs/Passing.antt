@@ -146,7 +146,7 @@ meets : (before : List Entry) (numbers : List ℤ) → length numbers ≡ 3 → 
 meets before numbers h = go (read_numbers (length before) numbers) refl
   where
     go : (r : Judged Kind) → read_numbers (length before) numbers ≡ r → Meets before numbers
-    go (good k) e = let s = read-says (length before) numbers h e in subst (Meets before) s.numbers_are (node-meets before k s.is_node)
+    go (good k) e = let s = read-says (length before) numbers h e in subst (Meets before) s.numbers_are (node-meets before k s.node_is)
     go (fails refusal place) e = stops NODE (node (read-says (length before) numbers h e).2)
 
 pub data Verdict (table : List ℤ) : Type 0 where

@@ -66,7 +66,7 @@ module _ {i : ℕ} {ns : List ℕ} {ws : List ℕ} {cs : List ℤ} {k : Kind} (r
 
 module _ {i a b : ℕ} {ns : List ℕ} {ws : List ℕ} {cs : List ℤ} (r : Ready i ns ws cs (sum a b)) where
   pub addends-there : (a < i) × (b < i)
-  addends-there = two-children i a b r.is_node
+  addends-there = two-children i a b r.node_is
 
   pub addends : Addends (read_at a (get_or ns a 0) ws) (read_at a (get_or ns a 0) cs) (read_at b (get_or ns b 0) ws) (read_at b (get_or ns b 0) cs)
   addends =
@@ -94,7 +94,7 @@ first-place a n xs d one =
 
 module _ {i a b : ℕ} {ns : List ℕ} {ws : List ℕ} {cs : List ℤ} (r : Ready i ns ws cs (product a b)) where
   pub factors-there : (a < i) × (b < i)
-  factors-there = two-children i a b r.is_node
+  factors-there = two-children i a b r.node_is
 
   factors : Factors (read_at a (get_or ns a 0) ws) (read_at a (get_or ns a 0) cs) (read_at b (get_or ns b 0) ws) (read_at b (get_or ns b 0) cs)
   factors =
@@ -147,7 +147,7 @@ pub ready_turned : {i a b : ℕ} {ns : List ℕ} {ws : List ℕ} {cs : List ℤ}
 ready_turned {i} {a} {b} {ns} {ws} {cs} r =
     let h = factors-there r in
     record {
-      is_node = rw (lt-ltb b i h.1, lt-ltb a i h.0) tt;
+      node_is = rw (lt-ltb b i h.1, lt-ltb a i h.0) tt;
       counted = r.counted;
       words_room = r.words_room;
       coefficients_room = r.coefficients_room;

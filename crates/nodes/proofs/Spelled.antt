@@ -54,7 +54,7 @@ numbers-read i (power a e) t =
 
 -- node i has these numbers
 pub record Spells (i : ℕ) (numbers : List ℤ) (k : Kind) : Type 0 where
-  pub is_node : T (is_node i k)
+  pub node_is : T (is_node i k)
   pub numbers_are : numbers_of k ≡ numbers
 
 abbrev pub Reads : ℕ → List ℤ → Judged Kind → Type 0
@@ -100,27 +100,27 @@ module _ (i : ℕ) (first second : ℤ) where
       and_i (ltb (nat_abs first) i) (ltb (nat_abs second) i) (lt→ltb (nat_abs first) i p.1) (lt→ltb (nat_abs second) i p.2)
 
   integer-spelled : T (is_zero second) → Spells i (pos 0 ∷ first ∷ second ∷ []) (integer first)
-  integer-spelled t = record { is_node = tt; numbers_are = ap (λ z. pos 0 ∷ first ∷ z ∷ []) (zero_is second t) }
+  integer-spelled t = record { node_is = tt; numbers_are = ap (λ z. pos 0 ∷ first ∷ z ∷ []) (zero_is second t) }
 
   variable-spelled : T (is_in variables first && is_zero second) → Spells i (pos 1 ∷ first ∷ second ∷ []) (variable (nat_abs first))
   variable-spelled t =
       let v = below variables first (and_l (is_in variables first) (is_zero second) t) in
       record {
-        is_node = lt→ltb (nat_abs first) variables v.1;
+        node_is = lt→ltb (nat_abs first) variables v.1;
         numbers_are = ap₂ (λ y z. pos 1 ∷ y ∷ z ∷ []) v.0 (zero_is second (and_r (is_in variables first) (is_zero second) t));
       }
 
   sum_spelled : T (is_in i first && is_in i second) → Spells i (pos 2 ∷ first ∷ second ∷ []) (sum (nat_abs first) (nat_abs second))
-  sum_spelled t = record { is_node = two-before t; numbers_are = (pair (pos 2) i i t).0 }
+  sum_spelled t = record { node_is = two-before t; numbers_are = (pair (pos 2) i i t).0 }
 
   product-spelled : T (is_in i first && is_in i second) → Spells i (pos 3 ∷ first ∷ second ∷ []) (product (nat_abs first) (nat_abs second))
-  product-spelled t = record { is_node = two-before t; numbers_are = (pair (pos 3) i i t).0 }
+  product-spelled t = record { node_is = two-before t; numbers_are = (pair (pos 3) i i t).0 }
 
   power-spelled : T (is_in i first && is_in (suc largest_degree) second) → Spells i (pos 4 ∷ first ∷ second ∷ []) (power (nat_abs first) (nat_abs second))
   power-spelled t =
       let p = pair (pos 4) i (suc largest_degree) t in
       record {
-        is_node =
+        node_is =
             and_i (ltb (nat_abs first) i) (leb (nat_abs second) largest_degree) (lt→ltb (nat_abs first) i p.1)
             (le→leb (nat_abs second) largest_degree (omega (arith, p.2)));
         numbers_are = p.0;
@@ -148,5 +148,5 @@ pub none_read : (i : ℕ) (numbers : List ℤ) → length numbers ≡ 3 → ((k 
 none_read i numbers h f = go (read_numbers i numbers) refl
   where
     go : (r : Judged Kind) → read_numbers i numbers ≡ r → read_numbers i numbers ≡ fails NODE i
-    go (good k) e = let s = read-says i numbers h e in absurd (f k s.is_node s.numbers_are)
+    go (good k) e = let s = read-says i numbers h e in absurd (f k s.node_is s.numbers_are)
     go (fails refusal place) e = let s = read-says i numbers h e in e ∙ ap₂ fails s.0 s.1

@@ -9,7 +9,7 @@ use Rattle.sums.specs.Formed.{Formed, Formed.formed, Formed.over, formed_of}
 use Rattle.sums.specs.declared.Formed as declared
 use Rattle.sums.specs.declared.Formed.TheVariants.{Terms, Over}
 use Rattle.sums.specs.declared.Size.{Size}
-use Rattle.sums.proofs.size_of.Reads as type_size
+use Rattle.sums.proofs.size_of.Reads as size_of
 use Rattle.sums.proofs.integer.Reads as integer
 use Rattle.sums.proofs.variable.Reads as variable
 use Rattle.sums.proofs.sum.Reads as sum
@@ -49,7 +49,7 @@ size h h' = λ j. record { degree = same h.0 h'.0 j; weight = same h.1 h'.1 j }
 
 -- ---- The functions.
 
-pub size-of-one : One type_size.Learnt
+pub size-of-one : One size_of.Learnt
 size-of-one k a r r' e e' h h' = size h h'
 
 -- Refused when tried: 1 has no term; zero has a term.

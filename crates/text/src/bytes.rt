@@ -88,8 +88,8 @@ fn takes_digit(top: u64, value: u64, b: u8) -> bool
 pub(crate) fn read_number(text: &[u8], at: usize, top: u64) -> Digits
     requires at_value { is_digit (byte_at text.now at) ≡ true }
     requires le_top { 9 ≤ top }
-    ensures value_value { result.value ≡ (digits_at top text.now at).value }
-    ensures next_value { result.next ≡ (digits_at top text.now at).next }
+    ensures value_is { result.value ≡ (digits_at top text.now at).value }
+    ensures next_is { result.next ≡ (digits_at top text.now at).next }
 {
     let mut value = (peek(text, at) - b'0') as u64;
     let mut next = at + 1;

@@ -117,7 +117,7 @@ form-formed-requires c =
     let b = a.next.built in
     let few = few-nodes a.next in
     record {
-      is_node = node-is a.next;
+      node_is = node-is a.next;
       counted = omega (arith, few, b.counts_long);
       words_room = omega (arith, few, b.words_room);
       coefficients_room = omega (arith, few, b.coefficients_room);

@@ -30,7 +30,7 @@ node_formed ss k = within (node_spread ss k) (node_sum ss k)
 
 -- what forming node i, of kind k, asks. Degree and weight are judged by the formulas of the formal ones, at the degrees and weights of the sums themselves
 pub record Ready (i : ℕ) (ns : List ℕ) (ws : List ℕ) (cs : List ℤ) (k : Kind) : Type 0 where
-  pub is_node : T (is_node i k)
+  pub node_is : T (is_node i k)
   pub counted : i ≤ length ns
   -- its own part is the last that is needed
   pub words_room : most_terms * i + most_terms ≤ length ws

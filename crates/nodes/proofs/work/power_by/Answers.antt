@@ -12,7 +12,7 @@ use Rattle.nodes.proofs.work.power_by.Goals as goal
 use Rattle.nodes.proofs.work.power_by.Goals.{After-copy_operand, Start}
 
 child : (c : Start) → c.args.a < c.args.i
-child c = (base-child c.args.i c.args.a c.args.e c.requires.ready.is_node).0
+child c = (base-child c.args.i c.args.a c.args.e c.requires.ready.node_is).0
 
 abbrev kept : (c : Start) → List Sum
 kept c = sums_at c.args.i c.args.counts.now c.args.patterns.now c.args.coefficients.now
@@ -21,7 +21,7 @@ kept c = sums_at c.args.i c.args.counts.now c.args.patterns.now c.args.coefficie
 base : (d : After-copy_operand)
     → Placed (sum_at d.args.counts.now d.args.patterns.now d.args.coefficients.now d.args.a) (get_or d.args.counts.now d.args.a 0 - 0) d.copy_operand.new.sp d.copy_operand.new.sc
 base d =
-    operand d.requires.ready.keeps d.args.a (((base-child d.args.i d.args.a d.args.e d.requires.ready.is_node).0)) d.requires.ready.words_room d.args.sp.now d.args.sc.now (omega arith) d.copy_operand.ensures.sp_after d.copy_operand.ensures.sc_after
+    operand d.requires.ready.keeps d.args.a (((base-child d.args.i d.args.a d.args.e d.requires.ready.node_is).0)) d.requires.ready.words_room d.args.sp.now d.args.sc.now (omega arith) d.copy_operand.ensures.sp_after d.copy_operand.ensures.sc_after
 
 pub power-requires-clause-base : goal.power-requires-clause-base
 power-requires-clause-base c = let f = base (goal.at.power-requires-clause-base c).After-copy_operand in

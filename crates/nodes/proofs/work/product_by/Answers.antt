@@ -12,7 +12,7 @@ use Rattle.nodes.proofs.work.product_by.Goals as goal
 use Rattle.nodes.proofs.work.product_by.Goals.{After-copy_operand-2, Start}
 
 children : (c : Start) → (c.args.a < c.args.i) × (c.args.b < c.args.i)
-children c = two-children c.args.i _ _ c.requires.ready.is_node
+children c = two-children c.args.i _ _ c.requires.ready.node_is
 
 abbrev kept : (c : Start) → List Sum
 kept c = sums_at c.args.i c.args.counts.now c.args.patterns.now c.args.coefficients.now
@@ -21,13 +21,13 @@ kept c = sums_at c.args.i c.args.counts.now c.args.patterns.now c.args.coefficie
 first : (d : After-copy_operand-2)
     → Placed (sum_at d.args.counts.now d.args.patterns.now d.args.coefficients.now d.args.a) (get_or d.args.counts.now d.args.a 0 - 0) d.copy_operand.new.sp d.copy_operand.new.sc
 first d =
-    operand d.requires.ready.keeps d.args.a (two-children d.args.i _ _ d.requires.ready.is_node).0 d.requires.ready.words_room d.args.sp.now d.args.sc.now (omega arith)
+    operand d.requires.ready.keeps d.args.a (two-children d.args.i _ _ d.requires.ready.node_is).0 d.requires.ready.words_room d.args.sp.now d.args.sc.now (omega arith)
     d.copy_operand.ensures.sp_after d.copy_operand.ensures.sc_after
 
 second : (d : After-copy_operand-2)
     → Placed (sum_at d.args.counts.now d.args.patterns.now d.args.coefficients.now d.args.b) (get_or d.args.counts.now d.args.b 0 - 0) d.copy_operand-2.new.sp d.copy_operand-2.new.sc
 second d =
-    operand d.requires.ready.keeps d.args.b (two-children d.args.i _ _ d.requires.ready.is_node).1 d.requires.ready.words_room d.args.tp.now d.args.tc.now (omega arith)
+    operand d.requires.ready.keeps d.args.b (two-children d.args.i _ _ d.requires.ready.node_is).1 d.requires.ready.words_room d.args.tp.now d.args.tc.now (omega arith)
     d.copy_operand-2.ensures.sp_after d.copy_operand-2.ensures.sc_after
 
 pub product-requires-clause-factors : goal.product-requires-clause-factors

@@ -33,8 +33,8 @@ loop-value-smaller c = let t = took (goal.at.loop-value-smaller c).In-loop-value
 pub loop-value-preserved : goal.loop-value-preserved
 loop-value-preserved c = again _ _ _ c.loop-value.invariant c.peek-in-loop-value-2.ensures (took (goal.at.loop-value-preserved c).In-loop-value)
 
-pub returns-clause-value_value : goal.returns-clause-value_value
-returns-clause-value_value c = (ended _ _ _ c.loop-value.invariant (rw c.peek-in-loop-value.ensures at (sym c.takes_digit.ensures ∙ c.loop-value-test.false))).0
+pub returns-clause-value_is : goal.returns-clause-value_is
+returns-clause-value_is c = (ended _ _ _ c.loop-value.invariant (rw c.peek-in-loop-value.ensures at (sym c.takes_digit.ensures ∙ c.loop-value-test.false))).0
 
-pub returns-clause-next_value : goal.returns-clause-next_value
-returns-clause-next_value c = (ended _ _ _ c.loop-value.invariant (rw c.peek-in-loop-value.ensures at (sym c.takes_digit.ensures ∙ c.loop-value-test.false))).1
+pub returns-clause-next_is : goal.returns-clause-next_is
+returns-clause-next_is c = (ended _ _ _ c.loop-value.invariant (rw c.peek-in-loop-value.ensures at (sym c.takes_digit.ensures ∙ c.loop-value-test.false))).1

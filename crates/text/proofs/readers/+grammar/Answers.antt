@@ -52,15 +52,15 @@ read_atom-returns-then-b-eq40 t c =
 pub read_atom-overflow_cast-integer : goal.read_atom-overflow_cast-integer
 read_atom-overflow_cast-integer t c =
     let digit = rw c.peek-b.ensures at (sym c.is_digit.ensures ∙ c.if-is_digit.true) in
-    let r = digits-reach largest_number _ _ (c.read_number-number.ensures.value_value, c.read_number-number.ensures.next_value) digit (omega arith) in
+    let r = digits-reach largest_number _ _ (c.read_number-number.ensures.value_is, c.read_number-number.ensures.next_is) digit (omega arith) in
     record { sfits = omega (arith, r.within) }
 
 pub read_atom-returns-then-is_digit : goal.read_atom-returns-then-is_digit
 read_atom-returns-then-is_digit t c =
     let digit = sym c.is_digit.ensures ∙ c.if-is_digit.true in
-    let r = digits-reach largest_number _ _ (c.read_number-number.ensures.value_value, c.read_number-number.ensures.next_value) (rw c.peek-b.ensures at digit) (omega arith) in
+    let r = digits-reach largest_number _ _ (c.read_number-number.ensures.value_is, c.read_number-number.ensures.next_is) (rw c.peek-b.ensures at digit) (omega arith) in
     let put = rw (to_z_pos w64 c.read_number-number.result.value (omega (arith, r.within))) at c.put.ensures in
-    answered _ _ _ _ _ _ (number_read _ _ c.peek-b.ensures _ digit (c.read_number-number.ensures.value_value, c.read_number-number.ensures.next_value)) (number-part _ _ _ _ (omega arith) r.within _ put)
+    answered _ _ _ _ _ _ (number_read _ _ c.peek-b.ensures _ digit (c.read_number-number.ensures.value_is, c.read_number-number.ensures.next_is)) (number-part _ _ _ _ (omega arith) r.within _ put)
 
 -- ---- An atom: a letter. The byte is no bracket and no digit.
 
@@ -105,16 +105,16 @@ pub read_factor-put-requires : goal.read_factor-put-requires
 read_factor-put-requires t c =
     let a = told _ _ _ _ _ _ c.read_atom-base.ensures c.in-At.is in
     let digit = rw c.peek-2.ensures at (sym c.is_digit.ensures ∙ c.if-not-is_digit.false) in
-    let r = digits-reach largest_exponent _ _ (c.read_number-exponent.ensures.value_value, c.read_number-exponent.ensures.next_value) digit (omega arith) in
+    let r = digits-reach largest_exponent _ _ (c.read_number-exponent.ensures.value_is, c.read_number-exponent.ensures.next_is) digit (omega arith) in
     base-before c.in-At.count (c.in-At.count - 1) c.read_number-exponent.result.value (omega (arith, a.some)) (omega arith)
 
 pub read_factor-returns : goal.read_factor-returns
 read_factor-returns t c =
     let a = told _ _ _ _ _ _ c.read_atom-base.ensures c.in-At.is in
     let digit = rw c.peek-2.ensures at (sym c.is_digit.ensures ∙ c.if-not-is_digit.false) in
-    let r = digits-reach largest_exponent _ _ (c.read_number-exponent.ensures.value_value, c.read_number-exponent.ensures.next_value) digit (omega arith) in
+    let r = digits-reach largest_exponent _ _ (c.read_number-exponent.ensures.value_is, c.read_number-exponent.ensures.next_is) digit (omega arith) in
     answered _ _ _ _ _ _
-    (factor-is _ _ _ ∙ then-good _ a.is ∙ exponent _ _ _ c.peek.ensures c.if-peek-ne94.false digit (c.read_number-exponent.ensures.value_value, c.read_number-exponent.ensures.next_value))
+    (factor-is _ _ _ ∙ then-good _ a.is ∙ exponent _ _ _ c.peek.ensures c.if-peek-ne94.false digit (c.read_number-exponent.ensures.value_is, c.read_number-exponent.ensures.next_is))
     (raised-part a.part _ (omega arith) r.within c.put.ensures)
 
 -- ---- A term: factors with * between them.
