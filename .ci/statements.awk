@@ -128,6 +128,7 @@ function visit(file, name,    words, n, i, key, word, rest, text) {
             rest = word
             sub(/\..*/, "", word)
             sub(/^[^.]*\./, "", rest)
+            sub(/\..*/, "", rest)
         }
         if ((file, word) in says) visit(file, word)
         else if ((file, word) in called) follow(from[file, word], called[file, word], word, file)
