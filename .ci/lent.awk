@@ -2,7 +2,7 @@
 # prints a line for each public function that has no such theorem, and for each whose theorem does not look at exactly those arguments that are lent to be written to.
 #
 # A theorem is 'pub NAME : One f.Learnt' for a function that is lent nothing, and else 'pub NAME : OneLent f.Learnt (λ k e. (e.0.now, e.1.0.now))', where argument n, counted from 0, is e
-# with n times .1 and then .0. Which function f is, the file says: 'use Rattle.CRATE.proofs.PATH.Reads as f'.
+# with n times .1 and then .0; or 'pub NAME : OneSeen f.Learnt ..' for one that is lent nothing and whose result refers to what it was given. Which function f is, the file says: 'use Rattle.CRATE.proofs.PATH.Reads as f'.
 
 function crate_of(file) {
     sub(/^crates\//, "", file)
@@ -34,7 +34,7 @@ function looked_at(statement,    set, part) {
 function end_statement(    alias) {
     if (statement == "") return
     alias = statement
-    sub(/^[^:]*: One(Lent)? /, "", alias)
+    sub(/^[^:]*: One(Lent|Seen)? /, "", alias)
     sub(/\.Learnt.*/, "", alias)
     theorem[about[alias]] = 1
     looks[about[alias]] = looked_at(statement)
@@ -53,7 +53,7 @@ FILENAME ~ /\/Unique\.antt$/ {
         sub(/\.Reads$/, "", path)
         about[$4] = crate_of(FILENAME) " " path
     }
-    if (/^pub [^ ]+ : One(Lent)? [^ ]+\.Learnt/) statement = $0
+    if (/^pub [^ ]+ : One(Lent|Seen)? [^ ]+\.Learnt/) statement = $0
     next
 }
 

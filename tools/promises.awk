@@ -185,7 +185,7 @@ FILENAME ~ /\/Unique\.antt$/ {
         gsub(/\./, "::", path)
         about[crate, $4] = path
     }
-    if (/^pub [^ ]+ : One(Lent)? [^ ]+\.Learnt/) {
+    if (/^pub [^ ]+ : One(Lent|Seen)? [^ ]+\.Learnt/) {
         sub(/\.Learnt.*/, "", $5)
         key = crate " " about[crate, $5]
         theorem[key] = $2

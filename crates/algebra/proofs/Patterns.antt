@@ -5,5 +5,6 @@ pub mod Order
 pub mod Fields
 pub mod Word
 pub mod Rank
+pub mod Standing
 pub mod Held
 pub mod Either

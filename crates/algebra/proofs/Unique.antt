@@ -1,17 +1,21 @@
 -- Each public function's contract leaves one outcome, as its caller sees it: the result itself, not only what is said of it.
 use mathlib.Core.Path.{◌≡◌, refl, ap, ap₂}
+use mathlib.Core.List.{List}
+use lib.IntN.{ℤ}
 use Prim.Native.Nat.{ℕ}
 use Rattle.answers.proofs.Outcomes.{same}
-use Rattle.answers.specs.Promised.{One}
+use Rattle.answers.specs.Promised.{One, OneSeen}
 use Rattle.algebra.specs.Inside.Standing.{standing}
 use Rattle.algebra.specs.declared.Pattern.{Pattern}
 use Rattle.algebra.specs.declared.Step.{Step}
-use Rattle.algebra.specs.declared.Standing.{Standing}
-use Rattle.algebra.specs.declared.Standing.TheVariants.{Before, Same, After}
+use Rattle.std.specs.declared.cmp.Ordering.{Ordering}
+use Rattle.std.specs.declared.cmp.Ordering.TheVariants.{Less, Equal, Greater}
 use Rattle.algebra.proofs.most_terms.Reads as most-terms
 use Rattle.algebra.proofs.largest_weight.Reads as largest-weight
 use Rattle.algebra.proofs.most_nodes.Reads as most-nodes
 use Rattle.algebra.proofs.work_places.Reads as work-places
+use Rattle.algebra.proofs.Terms.first.Reads as terms-first
+use Rattle.algebra.proofs.Terms.len.Reads as terms-len
 use Rattle.algebra.proofs.Pattern.variables.Reads as variables
 use Rattle.algebra.proofs.Pattern.largest_degree.Reads as largest-degree
 use Rattle.algebra.proofs.Pattern.empty.Reads as empty
@@ -36,16 +40,16 @@ step : {s t : Step} {k l : ℕ} → (s.power ≡ k) × (s.pattern.0 ≡ l) → (
 step h h' = ap₂ (λ (n : ℕ) (p : Pattern). record { power = n; pattern = p }) (same h.0 h'.0) (pattern h.1 h'.1)
 
 -- different answers stand for different orderings
-answer : (s t : Standing) → standing s ≡ standing t → s ≡ t
-answer Before Before h = refl
-answer Before Same h = cc
-answer Before After h = cc
-answer Same Before h = cc
-answer Same Same h = refl
-answer Same After h = cc
-answer After Before h = cc
-answer After Same h = cc
-answer After After h = refl
+answer : (s t : Ordering) → standing s ≡ standing t → s ≡ t
+answer Less Less h = refl
+answer Less Equal h = cc
+answer Less Greater h = cc
+answer Equal Less h = cc
+answer Equal Equal h = refl
+answer Equal Greater h = cc
+answer Greater Less h = cc
+answer Greater Equal h = cc
+answer Greater Greater h = refl
 
 -- ---- The functions.
 
@@ -120,3 +124,11 @@ without-one k a r r' e e' h h' = pattern h h'
 -- Refused when tried: "none" at power 1.
 pub slope-step-one : One slope-step.Learnt
 slope-step-one k a r r' e e' h h' = step h h'
+
+-- Refused when tried: no coefficients; the patterns to the end of the area.
+pub terms-first-one : OneSeen terms-first.Learnt {L = List ℕ × List ℤ} (λ k r. (r.patterns.now, r.coefficients.now))
+terms-first-one k a r r' e e' h h' = ap₂ (λ (ws : List ℕ) (cs : List ℤ). (ws, cs)) (same h.0 h'.0) (same h.1 h'.1)
+
+-- Refused when tried: the number of coefficients; none.
+pub terms-len-one : One terms-len.Learnt
+terms-len-one k a r r' e e' h h' = same h h'

@@ -2,13 +2,15 @@
 // Begin with specs/Pattern.antt, Sum.antt and Collect.antt, then with `Pattern`.
 #![tactic(auto)]
 
-ghost use Rattle.std.specs.Prelude.{◌≡◌, ◌+◌, ◌*◌, ◌-◌, ◌≤◌, ◌<◌, set};
+ghost use Rattle.std.specs.Prelude.{◌≡◌, ◌+◌, ◌*◌, ◌-◌, ◌≤◌, ◌<◌, set, length, take};
 ghost use Rattle.algebra.specs.Limits.{variables, largest_degree, most_terms, largest_weight, most_nodes, work_places};
 ghost use Rattle.algebra.specs.Inside.Either.{either};
 ghost use Rattle.algebra.specs.Pattern.{empty_pattern, times, degree, exponent, lowered, without, order};
 ghost use Rattle.algebra.specs.Word.{word, exponents, Valid};
 ghost use Rattle.algebra.specs.Inside.Rank.{rank_of, word_at};
 ghost use Rattle.algebra.specs.Inside.Standing.{standing};
+
+use std::cmp::Ordering;
 
 // The limits of a sum and of a formula. (Those of a pattern are the pattern's own.)
 pub const MOST_TERMS: usize = 128;
@@ -45,24 +47,48 @@ pub fn work_places() -> usize
     WORK_PLACES
 }
 
-// Where a pattern stands in the term order, seen from another one.
+// A sum in two slices, since C lends two areas: the words of its patterns, and their coefficients. (A running sum has the ranks of its patterns there, as `sums::rows` says.)
 #[derive(Clone, Copy)]
-pub enum Standing {
-    Before,
-    Same,
-    After,
+pub struct Terms<'a> {
+    pub patterns: &'a [u64],
+    pub coefficients: &'a [i64],
 }
 
-// What a slope needs of one pattern: the power of the variable, and the pattern with one power less.
-#[derive(Clone, Copy)]
+impl<'a> Terms<'a> {
+    // Those in the first n places of two areas.
+    // Asks that n is at most both lengths.
+    pub fn first(n: usize, patterns: &'a [u64], coefficients: &'a [i64]) -> Terms<'a>
+        requires in_patterns { n ≤ length patterns.now }
+        requires in_coefficients { n ≤ length coefficients.now }
+        ensures patterns { result.patterns.now ≡ take n patterns.entry.now }
+        ensures coefficients { result.coefficients.now ≡ take n coefficients.entry.now }
+    {
+        Terms {
+            patterns: &patterns[..n],
+            coefficients: &coefficients[..n],
+        }
+    }
+
+    // How many they are.
+    pub fn len(self) -> usize
+        ensures { result ≡ length self.entry.patterns.now }
+    {
+        self.patterns.len()
+    }
+}
+
+// What a slope needs of one pattern: the power of the variable, and the pattern with one power less. It is no Option: the power is the factor of the
+// coefficient, 0 too.
+#[derive(Clone, Copy, Debug, PartialEq, Eq)]
 pub struct Step {
     pub power: u64,
     pub pattern: Pattern,
 }
 
 // Eight exponents, a byte each, a in the highest byte. A valid pattern's degree is at most 60, so no
-// byte runs over into the next, and whole words can be added, compared and divided.
-#[derive(Clone, Copy)]
+// byte runs over into the next, and whole words can be added, compared and divided. It has no invariant: `total`, `either` and `exponent` take words that are
+// not judged yet.
+#[derive(Clone, Copy, Debug, PartialEq, Eq)]
 pub struct Pattern(pub u64);
 
 impl Pattern {
@@ -158,23 +184,16 @@ impl Pattern {
         Pattern(255 * (rank % Pattern::RANK_SIZE) + (rank >> Pattern::RANK_BITS))
     }
 
-    // The larger degree stands first. At equal degrees it is the larger word: the first byte in which
-    // the two differ decides.
+    // The larger degree stands first. At equal degrees it is the larger word: the first byte in which the two differ decides. `Less` is what stands before. It is no `Ord`: 01 names the method, and it asks for valid patterns.
     // Asks that both patterns are valid.
-    pub fn compare(self, other: Pattern) -> Standing
+    pub fn compare(self, other: Pattern) -> Ordering
         requires valid { Valid self.0 }
         requires valid_2 { Valid other.0 }
         ensures { standing result ≡ order (exponents self.0) (exponents other.0) }
     {
         let mine = self.rank();
         let theirs = other.rank();
-        if mine > theirs {
-            return Standing::Before;
-        }
-        if mine < theirs {
-            return Standing::After;
-        }
-        Standing::Same
+        theirs.cmp(&mine)
     }
 
     // The bits below the field of variable v.

@@ -1,12 +1,12 @@
--- What a loop keeps that copies values to the first places of an area: the first i are written. To clear them is to copy zeros.
-use mathlib.Core.Path.{◌≡◌, refl, sym, ◌∙◌, ap, subst}
+-- What a loop keeps that copies values to the first places of an area: the first i are written.
+use mathlib.Core.Path.{◌≡◌, refl, sym, ◌∙◌, ap}
 use mathlib.Core.List.{List}
 use Prim.Native.Nat.{ℕ, ◌+◌, ◌≤◌, ◌<◌}
 use native.Mathlib.Omega.{arith}
 use native.Mathlib.Numerals.{add-one}
-use lib.ListN.{length, get_or, take, set, length-set, replicate, length-replicate, get_or-replicate}
-use lib.Seq.{take-suc, take_all, length-take-le}
-use Rattle.answers.specs.Areas.{written, cleared}
+use lib.ListN.{length, get_or, take, set, length-set}
+use lib.Seq.{take-suc, length-take-le}
+use Rattle.answers.specs.Areas.{written}
 use Rattle.answers.proofs.Writes.{written_next}
 
 pub record Copying {A : Type 0} (area₀ values : List A) (count : ℕ) (area : List A) (i : ℕ) : Type 0 where
@@ -42,21 +42,3 @@ pub ended : {A : Type 0} (area₀ values : List A) (count : ℕ) (area : List A)
 ended area₀ values count area i c h =
     let at-end : i ≡ count = omega (arith, c.inside) in
     c.so_far ∙ ap (λ (k : ℕ). written (take k values) area₀) at-end
-
--- ---- Zeros.
-
-module _ {A : Type 0} (zero : A) where
-  abbrev pub Clearing : List A → ℕ → List A → ℕ → Type 0
-  Clearing area₀ count area i = Copying area₀ (replicate count zero) count area i
-
-  pub clear-start : (area : List A) (count : ℕ) → count ≤ length area → Clearing area count area 0
-  clear-start area count room = start area (replicate count zero) count room (omega (arith, length-replicate count zero))
-
-  pub clear-again : (area₀ : List A) (count : ℕ) (area : List A) (i : ℕ) → Clearing area₀ count area i → i < count → Clearing area₀ count (set area i zero) (i + 1)
-  clear-again area₀ count area i c h =
-      subst (λ (v : A). Clearing area₀ count (set area i v) (i + 1)) (get_or-replicate count i zero zero h) (again zero area₀ (replicate count zero) count area i c h)
-
-  pub clear-ended : (area₀ : List A) (count : ℕ) (area : List A) (i : ℕ) → Clearing area₀ count area i → count ≤ i → area ≡ cleared zero count area₀
-  clear-ended area₀ count area i c h =
-      ended area₀ (replicate count zero) count area i c h
-      ∙ ap (λ l. written l area₀) (take_all count (replicate count zero) (omega (arith, length-replicate count zero)))

@@ -14,8 +14,8 @@ use Rattle.answers.specs.Promised.{Numbered, Placed, Hearable}
 use Rattle.answers.specs.Inside.Fits.{fits_host, largest_unit}
 use Rattle.answers.specs.declared.Refusal.{Refusal}
 use Rattle.answers.specs.declared.Refusal.TheVariants.{Room, Shape, Node, Degree, Weight, Spread, Sum, List, Variable, Reading, Range, Text, Nodes}
-use Rattle.answers.specs.declared.Answer.{Answer}
-use Rattle.answers.specs.declared.Answer.TheVariants.{Done, Refused}
+use Rattle.std.specs.Prelude.{Result, Ok, Err}
+use Rattle.answers.specs.declared.Refused.{Refused}
 
 pub between : {n : ℕ} → 0 < n → n ≤ NODES → Numbered n
 between some most = record { some = some; most = most }
@@ -35,12 +35,12 @@ numbered Range = between (omega arith) (omega arith)
 numbered Text = between (omega arith) (omega arith)
 numbered Nodes = between (omega arith) (omega arith)
 
-module _ {unit : ℕ} {a : Answer} {refusal : Refusal} {place : ℕ} (is : a ≡ Refused refusal place) (fits : T (fits_host unit (told a))) where
-  place-fits : place < unit
-  place-fits = ltb→lt place unit (rw is at fits)
+module _ {unit : ℕ} {a : Result ℕ Refused} {r : Refused} (is : a ≡ Err r) (fits : T (fits_host unit (told a))) where
+  place-fits : r.place < unit
+  place-fits = ltb→lt r.place unit (rw is at fits)
 
-  pub number_fits : unit ≤ largest_unit → {n : ℕ} → n ≡ number refusal → n * unit + place < 2 ^ 64
-  number_fits small e = omega (arith, place-fits, mul-le-mul (rw (sym e) at (numbered refusal).most) small)
+  pub number_fits : unit ≤ largest_unit → {n : ℕ} → n ≡ number r.refusal → n * unit + r.place < 2 ^ 64
+  number_fits small e = omega (arith, place-fits, mul-le-mul (rw (sym e) at (numbered r.refusal).most) small)
 
 -- ---- Different answers have different numbers.
 
@@ -57,12 +57,13 @@ apart unit r r' p p' h h' e = go (dec_lt r r') (dec_lt r' r)
     go (no n) (no n') = let same : r ≡ r' = omega (arith, n, n') in (same, omega (arith, e, ap (λ (m : ℕ). m * unit) same))
 
 module _ (unit : ℕ) where
-  pub host-apart : (a b : Answer) → T (fits_host unit (told a)) → T (fits_host unit (told b)) → host_number unit (told a) ≡ host_number unit (told b) → told a ≡ told b
-  host-apart (Done n) (Done m) f g e = ap done e
-  host-apart (Done n) (Refused r p) f g e = absurd (omega (arith, e, ltb→lt n unit f, mul-le-mul_right unit (numbered r).some))
-  host-apart (Refused r p) (Done n) f g e = absurd (omega (arith, e, ltb→lt n unit g, mul-le-mul_right unit (numbered r).some))
-  host-apart (Refused r p) (Refused s q) f g e =
-      let parts = apart unit (number r) (number s) p q (ltb→lt p unit f) (ltb→lt q unit g) e in
+  pub host-apart : (a b : Result ℕ Refused) → T (fits_host unit (told a)) → T (fits_host unit (told b)) → host_number unit (told a) ≡ host_number unit (told b)
+      → told a ≡ told b
+  host-apart (Ok n) (Ok m) f g e = ap done e
+  host-apart (Ok n) (Err r) f g e = absurd (omega (arith, e, ltb→lt n unit f, mul-le-mul_right unit (numbered r.refusal).some))
+  host-apart (Err r) (Ok n) f g e = absurd (omega (arith, e, ltb→lt n unit g, mul-le-mul_right unit (numbered r.refusal).some))
+  host-apart (Err r) (Err s) f g e =
+      let parts = apart unit (number r.refusal) (number s.refusal) r.place s.place (ltb→lt r.place unit f) (ltb→lt s.place unit g) e in
       ap₂ (λ (m n : ℕ). refused m n) parts.0 parts.1
 
 -- ---- What a host hears.

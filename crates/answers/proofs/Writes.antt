@@ -1,11 +1,11 @@
 -- An area that is written place by place, from the front.
-use mathlib.Core.Path.{◌≡◌, refl, sym, ◌∙◌, ap}
+use mathlib.Core.Path.{◌≡◌, refl, sym, ◌∙◌, ap, ap₂}
 use mathlib.Core.List.{List, [], ◌∷◌, ◌++◌, append-nil}
 use Prim.Native.Nat.{ℕ, suc, ◌+◌, ◌-◌, ◌≤◌, ◌<◌}
 use native.Mathlib.Omega.{arith}
-use lib.ListN.{length, get_or, take, drop, set, length-append, take-append-drop, drop_of_length-le}
+use lib.ListN.{length, get_or, take, drop, set, length-append, replicate, length-replicate, take-append-drop, drop_of_length-le}
 use lib.Seq.{set_at, take_at, take_all, drop-cons, drop-drop, drop-append-add, get_or-drop, get_or-append-add, length-take-le, append_snoc}
-use Rattle.answers.specs.Areas.{written}
+use Rattle.answers.specs.Areas.{written, cleared}
 
 module _ {A : Type 0} where
   -- the next place gets the next value
@@ -25,6 +25,15 @@ module _ {A : Type 0} where
   written-front values area {area'} {count} are many =
       let rest = drop (length values) area in
       (ap (take count) are ∙ take_at values rest count many, omega (arith, ap length are, length-append values rest))
+
+  -- the first places are written as a part of the area
+  pub part-written : (values area : List A) (count : ℕ) {part : List A} → part ≡ values → length values ≡ count → part ++ drop count area ≡ written values area
+  part-written values area count is many = ap₂ (λ l (n : ℕ). l ++ drop n area) is (sym many)
+
+  pub part-cleared : (zero : A) (area : List A) (count : ℕ) {part : List A} → count ≤ length area → part ≡ replicate (length (take count area)) zero → part ++ drop count area ≡ cleared zero count area
+  part-cleared zero area count room is =
+      let long = length-take-le count area room in
+      part-written (replicate count zero) area count (is ∙ ap (λ (n : ℕ). replicate n zero) long) (length-replicate count zero)
 
   -- past the values the area stays
   pub drop-written : (values area : List A) (n : ℕ) → length values ≤ n → drop n (written values area) ≡ drop n area

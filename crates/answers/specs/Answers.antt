@@ -1,7 +1,6 @@
 -- What an operation answers, and what its caller sees afterwards.
-use Rattle.std.specs.Prelude.{ℕ, Bool, true, false}
-use Rattle.answers.specs.declared.Answer.{Answer}
-use Rattle.answers.specs.declared.Answer.TheVariants.{Done, Refused}
+use Rattle.std.specs.Prelude.{ℕ, Bool, true, false, Result, Ok, Err}
+use Rattle.answers.specs.declared.Refused.{Refused}
 use Rattle.answers.specs.Refusals.{number}
 
 pub data Told : Type 0 where
@@ -10,10 +9,10 @@ pub data Told : Type 0 where
   -- refused: the refusal's number, and its place
   refused : ℕ → ℕ → Told
 
--- what each case of the code's enum tells
-abbrev pub told : Answer → Told
-told (Done n) = done n
-told (Refused r place) = refused (number r) place
+-- what the code's answer, a number or a refusal with its place, tells
+abbrev pub told : Result ℕ Refused → Told
+told (Ok n) = done n
+told (Err r) = refused (number r.refusal) r.place
 
 -- the answer, and what the lent areas hold
 pub record Outcome (Areas : Type 0) : Type 0 where

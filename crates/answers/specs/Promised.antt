@@ -19,6 +19,10 @@ module _ {K : Type 0} {Arguments Result Exit : K → Type 0} (learnt : (k : K) �
   abbrev pub OneLent : {L : Type 0} → ((k : K) → Exit k → L) → Type 0
   OneLent area = Outcomes (λ k r r' e e'. (r ≡ r') × (area k e ≡ area k e'))
 
+  -- of one whose result refers to what it was given, what stands there
+  abbrev pub OneSeen : {L : Type 0} → ((k : K) → Result k → L) → Type 0
+  OneSeen seen = Outcomes (λ k r r' e e'. seen k r ≡ seen k r')
+
 -- ---- What a C host can hear.
 
 -- refusals have the numbers from 1 up to that of the last

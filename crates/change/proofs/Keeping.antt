@@ -1,13 +1,12 @@
--- Pairs kept in lists and in the parts of two areas: one pair more comes into the next part, and those before it stay.
-use mathlib.Core.Path.{◌≡◌, refl, sym, ◌∙◌, ap, ap₂}
+-- Pairs kept in entries and in the parts of two areas: one pair more comes into the next part, and those before it stay.
+use mathlib.Core.Path.{◌≡◌, refl, sym, ◌∙◌, ap, ap₂, subst}
 use mathlib.Core.List.{List, [], ◌∷◌, ◌++◌}
-use Prim.Native.Nat.{ℕ, zero, suc, ◌+◌, ◌*◌, ◌≤◌, ◌<◌}
+use Prim.Native.Nat.{ℕ, suc, ◌+◌, ◌*◌, ◌≤◌, ◌<◌}
 use native.Mathlib.Omega.{arith}
-use native.Mathlib.Decide.{dec_lt}
 use native.Mathlib.Nat.{add-zero}
 use lib.IntN.{ℤ}
-use lib.ListN.{length, get_or, take, drop, set, length-map}
-use lib.Seq.{get_or-set_same, get_or-set_other}
+use lib.ListN.{length, take, drop, set, length-map}
+use lib.Seq.{take-suc-set, length-take-le}
 use borrow.Rule.Slice.PartMut.{mid_of, put_mid}
 use Rattle.algebra.specs.Limits.{variables, most_terms, work_places}
 use Rattle.algebra.specs.Sum.{Sum}
@@ -20,84 +19,54 @@ use Rattle.sums.specs.Part.{part}
 use Rattle.sums.proofs.Holding.{spells, accepted-holdable, holds-sum}
 use Rattle.sums.proofs.Parts.{span, lent, part_length, part-put, before-put, after-put, part-before, drop-further}
 use Rattle.change.specs.Pairs.{Pair, pair}
+use Rattle.change.specs.declared.lists.Entry.{Entry}
 use Rattle.change.specs.Inside.Kept.{pair_at, pairs_from, KeptAt, Kept}
-
--- ---- One pair.
-
--- the variable and the terms of pair j
-pub record PairAt (vs ns ws : List ℕ) (cs : List ℤ) (j : ℕ) (p : Pair) : Type 0 where
-  pub variable_is : get_or vs j 0 ≡ p.variable
-  pub many : length p.sum ≡ get_or ns j 0
-  pub words_are : take (get_or ns j 0) (part j ws) ≡ words_of p.sum
-  pub coefficients_are : take (get_or ns j 0) (part j cs) ≡ coefficients_of p.sum
-
-module _ {vs ns ws : List ℕ} {cs : List ℤ} {j : ℕ} {p : Pair} (s : PairAt vs ns ws cs j p) (accepted : Accepted variables p.sum) where
-  stands-pair : pair_at vs ns ws cs j ≡ p
-  stands-pair = ap₂ pair s.variable_is (ap₂ terms s.words_are s.coefficients_are ∙ spells (accepted-holdable accepted))
-
-  stands-kept : p.variable < variables → KeptAt vs ns ws cs j
-  stands-kept known = record {
-    known = omega (arith, s.variable_is);
-    few = omega (arith, s.many, accepted.few);
-    sum = rw (s.words_are, s.coefficients_are) (holds-sum accepted);
-  }
 
 -- ---- The pairs from one on: their number, and that the last of them stands behind the others.
 
-pub pairs-many : (vs ns ws : List ℕ) (cs : List ℤ) (j left : ℕ) → length (pairs_from j left vs ns ws cs) ≡ left
-unfolding pairs_from
-pairs-many vs ns ws cs j zero = refl
-pairs-many vs ns ws cs j (suc left) = ap suc (pairs-many vs ns ws cs (suc j) left)
+module _ (ws : List ℕ) (cs : List ℤ) where
+  pub pairs-many : (j : ℕ) (es : List Entry) → length (pairs_from j es ws cs) ≡ length es
+  unfolding pairs_from
+  pairs-many j [] = refl
+  pairs-many j (e ∷ es) = ap suc (pairs-many (suc j) es)
 
-pairs-last : (vs ns ws : List ℕ) (cs : List ℤ) (j left : ℕ) → pairs_from j (suc left) vs ns ws cs ≡ pairs_from j left vs ns ws cs ++ (pair_at vs ns ws cs (j + left) ∷ [])
-unfolding pairs_from
-pairs-last vs ns ws cs j zero = ap (λ (i : ℕ). pair_at vs ns ws cs i ∷ []) (sym (add-zero j))
-pairs-last vs ns ws cs j (suc left) =
-    let same : suc j + left ≡ j + suc left = omega arith in
-    ap (λ l. pair_at vs ns ws cs j ∷ l)
-    (pairs-last vs ns ws cs (suc j) left ∙ ap (λ (i : ℕ). pairs_from (suc j) left vs ns ws cs ++ (pair_at vs ns ws cs i ∷ [])) same)
+  pairs-last : (j : ℕ) (es : List Entry) (e : Entry) → pairs_from j (es ++ (e ∷ [])) ws cs ≡ pairs_from j es ws cs ++ (pair_at e ws cs (j + length es) ∷ [])
+  unfolding pairs_from
+  pairs-last j [] e = ap (λ (i : ℕ). pair_at e ws cs i ∷ []) (sym (add-zero j))
+  pairs-last j (f ∷ es) e =
+      let same : suc j + length es ≡ j + suc (length es) = omega arith in
+      ap (λ l. pair_at f ws cs j ∷ l) (pairs-last (suc j) es e ∙ ap (λ (i : ℕ). pairs_from (suc j) es ws cs ++ (pair_at e ws cs i ∷ [])) same)
 
--- ---- Lists and areas that are alike at a pair keep the same there.
+  kept-last : (j : ℕ) (es : List Entry) (e : Entry) → Kept j es ws cs → KeptAt e ws cs (j + length es) → Kept j (es ++ (e ∷ [])) ws cs
+  unfolding Kept
+  kept-last j [] e before last = (subst (KeptAt e ws cs) (add-zero j) last, tt)
+  kept-last j (f ∷ es) e before last =
+      let same : j + suc (length es) ≡ suc j + length es = omega arith in
+      (before.0, kept-last (suc j) es e before.1 (subst (KeptAt e ws cs) same last))
 
-module _ (vs ns ws : List ℕ) (cs : List ℤ) (vs' ns' ws' : List ℕ) (cs' : List ℤ) where
+-- ---- Areas that are alike in a part keep the same there.
+
+module _ (ws : List ℕ) (cs : List ℤ) (ws' : List ℕ) (cs' : List ℤ) where
   record Same (i : ℕ) : Type 0 where
-    variable_is : get_or vs' i 0 ≡ get_or vs i 0
-    number_is : get_or ns' i 0 ≡ get_or ns i 0
     words_are : part i ws' ≡ part i ws
     coefficients_are : part i cs' ≡ part i cs
 
-  kept_same : (i : ℕ) → Same i → KeptAt vs ns ws cs i → KeptAt vs' ns' ws' cs' i
-  kept_same i m k = record {
-    known = rw m.variable_is k.known;
-    few = rw m.number_is k.few;
-    sum = rw (m.number_is, m.words_are, m.coefficients_are) k.sum;
-  }
+  kept_same : (j : ℕ) (es : List Entry) → ((i : ℕ) → i < j + length es → Same i) → Kept j es ws cs → Kept j es ws' cs'
+  unfolding Kept
+  kept_same j [] m k = tt
+  kept_same j (e ∷ es) m k =
+      let here = m j (omega arith) in (
+        record { known = k.0.known; few = k.0.few; sum = rw (here.words_are, here.coefficients_are) k.0.sum },
+        kept_same (suc j) es (λ i h. m i (omega arith)) k.1,
+      )
 
-  pair_same : (i : ℕ) → Same i → pair_at vs' ns' ws' cs' i ≡ pair_at vs ns ws cs i
-  pair_same i m = rw (m.variable_is, m.number_is, m.words_are, m.coefficients_are)
-
-  pairs-same : (j left : ℕ) → ((i : ℕ) → i < j + left → Same i) → pairs_from j left vs' ns' ws' cs' ≡ pairs_from j left vs ns ws cs
+  pairs-same : (j : ℕ) (es : List Entry) → ((i : ℕ) → i < j + length es → Same i) → pairs_from j es ws' cs' ≡ pairs_from j es ws cs
   unfolding pairs_from
-  pairs-same j zero m = refl
-  pairs-same j (suc left) m = ap₂ (λ (p : Pair) (l : List Pair). p ∷ l) (pair_same j (m j (omega arith))) (pairs-same (suc j) left (λ i h. m i (omega arith)))
-
-  -- one pair more
-  module _ {j : ℕ} (p : Pair) (before : (i : ℕ) → i < j → Same i) (last : PairAt vs' ns' ws' cs' j p)
-      (known : p.variable < variables) (accepted : Accepted variables p.sum) where
-    kept_more : Kept j vs ns ws cs → Kept (suc j) vs' ns' ws' cs'
-    kept_more k i h = go (dec_lt i j)
-      where
-        go : Dec (i < j) → KeptAt vs' ns' ws' cs' i
-        go (yes l) = kept_same i (before i l) (k i l)
-        go (no l) =
-            let at_last : i ≡ j = omega (arith, l) in
-            rw at_last (stands-kept last accepted known)
-
-    pairs-more : pairs_from 0 (suc j) vs' ns' ws' cs' ≡ pairs_from 0 j vs ns ws cs ++ (p ∷ [])
-    pairs-more =
-        let there : 0 + j ≡ j = omega arith in
-        pairs-last vs' ns' ws' cs' 0 j
-        ∙ ap₂ (λ (l : List Pair) (q : Pair). l ++ (q ∷ [])) (pairs-same 0 j (λ i h. before i (omega arith))) (ap (pair_at vs' ns' ws' cs') there ∙ stands-pair last accepted)
+  pairs-same j [] m = refl
+  pairs-same j (e ∷ es) m =
+      let here = m j (omega arith) in
+      let pair_same : pair_at e ws' cs' j ≡ pair_at e ws cs j = rw (here.words_are, here.coefficients_are) in
+      ap₂ (λ (p : Pair) (l : List Pair). p ∷ l) pair_same (pairs-same (suc j) es (λ i h. m i (omega arith)))
 
 -- ---- A sum that was read into the parts that are lent for pair j.
 
@@ -121,45 +90,51 @@ module _ {A : Type 0} (j : ℕ) (xs ys : List A) (room : most_terms * suc j ≤ 
   part_stays : (i : ℕ) → i < j → part i (put_mid (most_terms * j) (span j) xs ys) ≡ part i xs
   part_stays i h = part-before j i (put_mid (most_terms * j) (span j) xs ys) xs h (before-put j xs room ys as_long)
 
-module _ (vs ns ws : List ℕ) (cs : List ℤ) (j : ℕ) (room-v : j < length vs) (room-n : j < length ns)
+-- one pair more: its entry is the next one, and its terms are in the next part
+module _ (es : List Entry) (ws : List ℕ) (cs : List ℤ) (j : ℕ) (room : j < length es)
     (room-w : most_terms * suc j ≤ length ws) (room-c : most_terms * suc j ≤ length cs)
-    (v n : ℕ) (S : Sum) (ps : List ℕ) (ds : List ℤ)
+    (e : Entry) (S : Sum) (ps : List ℕ) (ds : List ℤ)
     (lp : length ps ≡ length (mid_of (most_terms * j) (span j) ws)) (ld : length ds ≡ length (mid_of (most_terms * j) (span j) cs))
-    (many : length S ≡ n) (words_are : ps ≡ written (words_of S) (mid_of (most_terms * j) (span j) ws))
+    (many : length S ≡ e.terms) (words_are : ps ≡ written (words_of S) (mid_of (most_terms * j) (span j) ws))
     (coefficients_are : ds ≡ written (coefficients_of S) (mid_of (most_terms * j) (span j) cs))
-    (known : v < variables) (accepted : Accepted variables S) where
-  abbrev vs' : List ℕ
-  vs' = set vs j v
-
-  abbrev ns' : List ℕ
-  ns' = set ns j n
-
+    (known : e.variable < variables) (accepted : Accepted variables S) where
   abbrev ws' : List ℕ
   ws' = put_mid (most_terms * j) (span j) ws ps
 
   abbrev cs' : List ℤ
   cs' = put_mid (most_terms * j) (span j) cs ds
 
-  before_same : (i : ℕ) → i < j → Same vs ns ws cs vs' ns' ws' cs' i
+  words_stand : take e.terms (part j ws') ≡ words_of S
+  words_stand = part-front j ws ps room-w lp (words_of S) words_are (length-map S _ ∙ many)
+
+  coefficients_stand : take e.terms (part j cs') ≡ coefficients_of S
+  coefficients_stand = part-front j cs ds room-c ld (coefficients_of S) coefficients_are (length-map S _ ∙ many)
+
+  last-pair : pair_at e ws' cs' j ≡ pair e.variable S
+  last-pair = ap (pair e.variable) (ap₂ terms words_stand coefficients_stand ∙ spells (accepted-holdable accepted))
+
+  last-kept : KeptAt e ws' cs' j
+  last-kept = record { known = known; few = omega (arith, many, accepted.few); sum = rw (words_stand, coefficients_stand) (holds-sum accepted) }
+
+  entries-next : take (suc j) (set es j e) ≡ take j es ++ (e ∷ [])
+  entries-next = take-suc-set es j e room
+
+  entries-many : length (take j es) ≡ j
+  entries-many = length-take-le j es (omega arith)
+
+  before_same : (i : ℕ) → i < 0 + length (take j es) → Same ws cs ws' cs' i
   before_same i h = record {
-    variable_is = get_or-set_other vs j i v 0 (λ e. omega arith);
-    number_is = get_or-set_other ns j i n 0 (λ e. omega arith);
-    words_are = part_stays j ws ps room-w lp i h;
-    coefficients_are = part_stays j cs ds room-c ld i h;
+    words_are = part_stays j ws ps room-w lp i (omega (arith, entries-many));
+    coefficients_are = part_stays j cs ds room-c ld i (omega (arith, entries-many));
   }
 
-  last-stands : PairAt vs' ns' ws' cs' j (pair v S)
-  last-stands =
-      let number : get_or ns' j 0 ≡ n = get_or-set_same ns j n 0 room-n in
-      record {
-        variable_is = get_or-set_same vs j v 0 room-v;
-        many = many ∙ sym number;
-        words_are = rw number (part-front j ws ps room-w lp (words_of S) words_are (length-map S _ ∙ many));
-        coefficients_are = rw number (part-front j cs ds room-c ld (coefficients_of S) coefficients_are (length-map S _ ∙ many));
-      }
+  pub kept_next : Kept 0 (take j es) ws cs → Kept 0 (take (suc j) (set es j e)) ws' cs'
+  kept_next k =
+      let here : 0 + length (take j es) ≡ j = omega (arith, entries-many) in
+      rw entries-next (kept-last ws' cs' 0 (take j es) e (kept_same ws cs ws' cs' 0 (take j es) before_same k) (rw here last-kept))
 
-  pub kept_next : Kept j vs ns ws cs → Kept (suc j) vs' ns' ws' cs'
-  kept_next = kept_more vs ns ws cs vs' ns' ws' cs' (pair v S) before_same last-stands known accepted
-
-  pub pairs_next : pairs_from 0 (suc j) vs' ns' ws' cs' ≡ pairs_from 0 j vs ns ws cs ++ (pair v S ∷ [])
-  pairs_next = pairs-more vs ns ws cs vs' ns' ws' cs' (pair v S) before_same last-stands known accepted
+  pub pairs_next : pairs_from 0 (take (suc j) (set es j e)) ws' cs' ≡ pairs_from 0 (take j es) ws cs ++ (pair e.variable S ∷ [])
+  pairs_next =
+      let here : 0 + length (take j es) ≡ j = omega (arith, entries-many) in
+      ap (λ l. pairs_from 0 l ws' cs') entries-next ∙ pairs-last ws' cs' 0 (take j es) e
+      ∙ ap₂ (λ (l : List Pair) (q : Pair). l ++ (q ∷ [])) (pairs-same ws cs ws' cs' 0 (take j es) before_same) (ap (pair_at e ws' cs') here ∙ last-pair)

@@ -3,13 +3,19 @@ use mathlib.Core.Path.{◌≡◌}
 use Prim.Native.Nat.{ℕ}
 use native.Mathlib.Omega.{arith}
 use Rattle.numbers.specs.Item.{Item, and_then, renamed, Fault, Fault.cut, Fault.bad}
+use Rattle.std.specs.Prelude.{Err}
+use Rattle.numbers.specs.declared.Fault as declared
+use Rattle.numbers.specs.declared.Fault.TheVariants.{Cut, Bad}
+use Rattle.numbers.specs.Inside.Read.{item_of}
 use Rattle.numbers.proofs.Items.{Alike, Alike.both}
 use Rattle.change.specs.Pairs.{ListFault, ListFault.item, ListFault.unknown}
-use Rattle.change.specs.Inside.Kept.{item_fault}
+use Rattle.change.specs.Inside.Kept.{listed_of, of_item}
 
-pub item-stops : {A B C : Type 0} (f : B → ℕ → Item ListFault C) {x : Item Fault A} {y : Item Fault B} → Alike x y → Alike (item_fault x) (and_then (renamed item y) f)
+pub item-stops : {B C : Type 0} (g : B → ℕ → Item ListFault C) (f : declared.Fault) {y : Item Fault B} → Alike (item_of (Err f)) y
+    → Alike (listed_of (Err (of_item f))) (and_then (renamed item y) g)
 unfolding and_then renamed
-item-stops f both = both
+item-stops g (Cut place) both = both
+item-stops g (Bad place) both = both
 
 -- ---- Faults of a list that are none of another kind.
 

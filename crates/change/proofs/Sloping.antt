@@ -9,8 +9,8 @@ use lib.IntN.{ℤ, pos, nat_abs, ◌*ℤ◌}
 use lib.ListN.{length, get_or, take, set, length-append, length-map, length-set}
 use lib.Seq.{take_all, get_or-take, length-take-le}
 use mir.Syntax.{w64}
-use mir.Val.{SFits, of_z, to_z}
-use mir.ValLaws.{to_z-of_z, to_z_pos}
+use mir.Val.{SFits, to_z}
+use mir.ValLaws.{to_z_pos}
 use Rattle.algebra.specs.Limits.{variables, largest_degree, largest_weight}
 use Rattle.algebra.specs.Pattern.{exponent, lowered}
 use Rattle.algebra.specs.Sum.{Term, term, Sum, weight}
@@ -135,10 +135,9 @@ module _ {v : ℕ} {ws : List ℕ} {cs : List ℤ} {ws₀ : List ℕ} {cs₀ : L
     power_small = omega (arith, exponent-degree v (exponents (get_or ws k 0)), (each-valid f.sum.held k h).low)
 
     -- the product that the machine forms
-    pub slope-is : (power : ℕ) → SFits w64 (get_or cs k (pos 0)) → power ≡ exponent v (exponents (get_or ws k 0))
-        → to_z w64 (of_z w64 (get_or cs k (pos 0))) *ℤ to_z w64 power ≡ get_or cs k (pos 0) *ℤ pos (exponent v (exponents (get_or ws k 0)))
-    slope-is power fits is =
-        ap₂ ◌*ℤ◌ (to_z-of_z w64 (get_or cs k (pos 0)) fits) (to_z_pos w64 power (omega (arith, power_small)) ∙ ap pos is)
+    pub slope-is : {z : ℤ} (power : ℕ) → z ≡ get_or cs k (pos 0) → power ≡ exponent v (exponents (get_or ws k 0))
+        → z *ℤ to_z w64 power ≡ get_or cs k (pos 0) *ℤ pos (exponent v (exponents (get_or ws k 0)))
+    slope-is power read is = ap₂ ◌*ℤ◌ read (to_z_pos w64 power (omega (arith, power_small)) ∙ ap pos is)
 
     pub slope-fits : SFits w64 (get_or cs k (pos 0) *ℤ pos (exponent v (exponents (get_or ws k 0))))
     slope-fits =

@@ -1,43 +1,46 @@
 -- What `read_list` answers, check by check: the count, its pairs, and that nothing is left over.
-use mathlib.Core.Path.{◌≡◌, refl, sym, ◌∙◌, ap}
+use mathlib.Core.Path.{◌≡◌, sym, ◌∙◌}
 use mathlib.Core.List.{List}
 use Prim.Native.Nat.{ℕ, ◌≤◌, ◌<◌}
 use native.Mathlib.Omega.{arith}
 use lib.Dec.{leb, leb→le, le→leb}
 use lib.ListN.{length}
 use Rattle.algebra.specs.Limits.{variables}
-use Rattle.numbers.specs.Item.{Item, Item.got, Item.stopped, mapped, to_the_end, Fault, Fault.bad}
+use Rattle.numbers.specs.Item.{Item, Item.got, Item.stopped, mapped, to_the_end, Fault.bad}
 use Rattle.numbers.specs.Number.{read_number}
 use Rattle.change.specs.Pairs.{Pair, ListFault, ListFault.item, read_pairs, read_list}
-use Rattle.change.specs.Inside.Kept.{listed_of, item_fault}
-use Rattle.change.specs.declared.lists.Listed as code
-use Rattle.change.specs.declared.lists.Listed.TheVariants.{Pairs, Faulty}
+use Rattle.std.specs.Prelude.{Err}
+use Rattle.numbers.specs.declared.Fault as declared
+use Rattle.numbers.specs.Inside.Read.{item_of}
+use Rattle.change.specs.Inside.Kept.{listed_of, of_item}
+use Rattle.change.specs.declared.lists.ListFault as code
+use Rattle.change.specs.declared.lists.ListFault.TheVariants.{Ended, Damaged, Unknown}
 use Rattle.numbers.proofs.Items.{then-got, provided-yes, renamed-got, From, came_from, Alike, Alike.both, alike_then, alike-provided}
 use Rattle.change.proofs.Reading.{item-stops}
 
 -- ---- What reading the pairs answered.
 
--- an answer that is no pairs
-abbrev pub NoPairs : code.Listed → Type 0
-NoPairs r = (n end : ℕ) → r ≡ Pairs n end → ⊥
-
--- no pairs: the fault that was met
-pub pairs-stopped : (r : code.Listed) → NoPairs r → (read : Item ListFault (List Pair)) → listed_of r ≡ mapped length read → Alike (listed_of r) read
+-- a fault is the one that was met
+met : {what : ListFault} {place : ℕ} (read : Item ListFault (List Pair)) → stopped what place ≡ mapped length read → Alike {A = ℕ} (stopped what place) read
 unfolding mapped
-pairs-stopped (Pairs n end) key read e = absurd (key n end refl)
-pairs-stopped (Faulty what place) key (got ps end) e = let z : ◌≡◌ {A = ℕ} 0 1 = cc in absurd (omega arith)
-pairs-stopped (Faulty what place) key (stopped w p) e = rw e both
+met (got ps end) e = let z : ◌≡◌ {A = ℕ} 0 1 = cc in absurd (omega arith)
+met (stopped what place) e = rw e both
+
+pub pairs-stopped : (f : code.ListFault) (read : Item ListFault (List Pair)) → listed_of (Err f) ≡ mapped length read → Alike (listed_of (Err f)) read
+pairs-stopped (Ended place) read e = met read e
+pairs-stopped (Damaged place) read e = met read e
+pairs-stopped (Unknown place) read e = met read e
 
 -- or pairs, and the place after them
-pub pairs-read : {r : code.Listed} {n end : ℕ} → r ≡ Pairs n end → (read : Item ListFault (List Pair)) → listed_of r ≡ mapped length read → From length read n end
-pairs-read {r} is read e = came_from length read _ _ (sym e ∙ ap listed_of is)
+pub pairs-read : {n end : ℕ} (read : Item ListFault (List Pair)) → got n end ≡ mapped length read → From length read n end
+pairs-read read e = came_from length read _ _ (sym e)
 
 -- ---- The whole list.
 
 module _ (s : List ℕ) where
-  pub count-stops : {x : Item Fault ℕ} → Alike x (read_number s 0) → Alike (item_fault x) (read_list variables s)
+  pub count-stops : (f : declared.Fault) → Alike (item_of (Err f)) (read_number s 0) → Alike (listed_of (Err (of_item f))) (read_list variables s)
   unfolding read_list
-  count-stops a = item-stops _ a
+  count-stops f a = item-stops _ f a
 
   module _ {count next : ℕ} (number : read_number s 0 ≡ got count next) where
     pub many-stop : variables < count → Alike {A = ℕ} (stopped (item bad) 0) (read_list variables s)

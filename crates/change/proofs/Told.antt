@@ -6,19 +6,12 @@ use lib.IntN.{ℤ}
 use lib.ListN.{length, take, length-map}
 use Rattle.algebra.specs.Sum.{Sum}
 use Rattle.algebra.specs.Held.{words_of, coefficients_of}
-use Rattle.answers.proofs.Refusing.{NotDone}
-use Rattle.answers.specs.Answers.{Told, Told.done, told, outcome}
+use Rattle.answers.specs.Answers.{Told.done, Told.refused, outcome}
 use Rattle.answers.specs.Judge.{Judged, Judged.good, Judged.fails, and_then}
-use Rattle.answers.specs.declared.Answer.{Answer}
-use Rattle.answers.specs.declared.Answer.TheVariants.{Done, Refused}
 use Rattle.answers.proofs.Judging.{good-fails, refused-done}
 use Rattle.answers.proofs.Writes.{written-front}
 use Rattle.packed.specs.Result.{held_into}
-use Rattle.change.specs.Inside.Kept.{terms_told, HoldsGood}
-
--- what is to be ensured of an answer, with two areas
-abbrev pub Ensured : Judged Sum → List ℕ → List ℤ → Told → Type 0
-Ensured judged ws cs answer = (answer ≡ terms_told judged) × HoldsGood judged ws cs
+use Rattle.change.specs.Inside.Kept.{HoldsGood}
 
 -- a sum of n terms was judged good, and stands there
 pub record ToldAt (judged : Judged Sum) (ws : List ℕ) (cs : List ℤ) (n : ℕ) : Type 0 where
@@ -28,21 +21,22 @@ pub record ToldAt (judged : Judged Sum) (ws : List ℕ) (cs : List ℤ) (n : ℕ
   pub words_are : take n ws ≡ words_of sum
   pub coefficients_are : take n cs ≡ coefficients_of sum
 
-pub stands-ensured : {judged : Judged Sum} {ws : List ℕ} {cs : List ℤ} {n : ℕ} → ToldAt judged ws cs n → Ensured judged ws cs (done n)
-stands-ensured {judged} s =
-    let only : (t : Sum) → judged ≡ good t → s.sum ≡ t = λ t e. let both : good s.sum ≡ good t = sym s.is_good ∙ e in cc in (
-      rw (s.is_good, s.many) refl,
-      record { words_are = λ t e. rw (← only t e, s.many) s.words_are; coefficients_are = λ t e. rw (← only t e, s.many) s.coefficients_are },
-    )
+pub stands-good : {judged : Judged Sum} {ws : List ℕ} {cs : List ℤ} {n : ℕ} → ToldAt judged ws cs n → HoldsGood judged (done n) ws cs
+stands-good {judged} s =
+    let only : (t : Sum) → judged ≡ good t → s.sum ≡ t = λ t e. let both : good s.sum ≡ good t = sym s.is_good ∙ e in cc in
+    record {
+      says = rw (s.is_good, s.many) refl;
+      words_are = λ t e. rw (← only t e, s.many) s.words_are;
+      coefficients_are = λ t e. rw (← only t e, s.many) s.coefficients_are;
+    }
 
 -- ---- What the code answers, having held the sum in two areas.
 
-pub done-stands : (judged : Judged Sum) (ws₀ : List ℕ) (cs₀ : List ℤ) {ws : List ℕ} {cs : List ℤ} {n : ℕ} (r : Answer) → r ≡ Done n
-    → outcome (told r) (ws, cs) ≡ held_into judged ws₀ cs₀ → ToldAt judged ws cs n
+pub done-stands : (judged : Judged Sum) (ws₀ : List ℕ) (cs₀ : List ℤ) {ws : List ℕ} {cs : List ℤ} {n : ℕ} → outcome (done n) (ws, cs) ≡ held_into judged ws₀ cs₀ → ToldAt judged ws cs n
 unfolding held_into
-done-stands (fails refusal place) ws₀ cs₀ r is e = absurd (refused-done (sym (ap (λ o. o.answer) e) ∙ ap told is))
-done-stands (good s) ws₀ cs₀ {n = n} r is e =
-    let so : done n ≡ done (length s) = sym (ap told is) ∙ ap (λ o. o.answer) e in
+done-stands (fails refusal place) ws₀ cs₀ e = absurd (refused-done (sym (ap (λ o. o.answer) e)))
+done-stands (good s) ws₀ cs₀ {n = n} e =
+    let so : done n ≡ done (length s) = ap (λ o. o.answer) e in
     let many : length s ≡ n = cc in
     record {
       sum = s;
@@ -53,11 +47,9 @@ done-stands (good s) ws₀ cs₀ {n = n} r is e =
     }
 
 -- what would have followed is not asked, and any areas will do
-pub refused-ensured : (judged : Judged Sum) (f : Sum → Judged Sum) {areas : List ℕ × List ℤ} (ws₀ : List ℕ) (cs₀ : List ℤ) (r : Answer)
-    → NotDone r → outcome (told r) areas ≡ held_into judged ws₀ cs₀
-    → (ws : List ℕ) (cs : List ℤ) → Ensured (and_then judged f) ws cs (told r)
+pub refused-so : (judged : Judged Sum) (f : Sum → Judged Sum) {areas : List ℕ × List ℤ} (ws₀ : List ℕ) (cs₀ : List ℤ) {refusal place : ℕ}
+    → outcome (refused refusal place) areas ≡ held_into judged ws₀ cs₀ → (ws : List ℕ) (cs : List ℤ) → HoldsGood (and_then judged f) (refused refusal place) ws cs
 unfolding held_into and_then
-refused-ensured judged f ws₀ cs₀ (Done n) key e ws cs = absurd (key n refl)
-refused-ensured (good s) f ws₀ cs₀ (Refused what p) key e ws cs = absurd (refused-done (ap (λ o. o.answer) e))
-refused-ensured (fails refusal place) f ws₀ cs₀ (Refused what p) key e ws cs =
-    (ap (λ o. o.answer) e, record { words_are = λ s g. absurd (good-fails (sym g)); coefficients_are = λ s g. absurd (good-fails (sym g)) })
+refused-so (good s) f ws₀ cs₀ e ws cs = absurd (refused-done (ap (λ o. o.answer) e))
+refused-so (fails refusal place) f ws₀ cs₀ e ws cs =
+    record { says = ap (λ o. o.answer) e; words_are = λ s g. absurd (good-fails (sym g)); coefficients_are = λ s g. absurd (good-fails (sym g)) }

@@ -1,150 +1,117 @@
 // The list of a substitution, read once and to its end. The terms of pair j are kept in the part of both work areas that starts at 128 × j.
-ghost use Rattle.std.specs.Prelude.{◌≡◌, ◌≤◌, length, drop};
+// What is written stays two slices, as in `lib`.
+ghost use Rattle.std.specs.Prelude.{◌≡◌, ◌≤◌, Err, length};
 ghost use Rattle.algebra.specs.Limits.{variables, work_places};
 ghost use Rattle.answers.specs.Answers.{told};
-ghost use Rattle.numbers.specs.Inside.Read.{item_of};
-ghost use Rattle.numbers.specs.Item.{mapped};
 ghost use Rattle.change.specs.Pairs.{read_pairs, read_list};
-ghost use Rattle.change.specs.Inside.Kept.{listed_of, item_fault, list_fault, KeepsRead};
+ghost use Rattle.change.specs.Inside.Kept.{listed_of, of_item, list_fault, Leaves};
 
 use algebra::{MOST_TERMS, Pattern};
-use answers::{Answer, Refusal};
-use numbers::Read;
+use answers::{Refusal, Refused};
+use numbers::Fault;
 
-// Why a list is at fault.
-#[derive(Clone, Copy)]
-pub enum Fault {
-    // It ends too soon.
-    Ended,
-    // An item of it is at fault, or bytes are left over.
-    Damaged,
-    // A number is no variable's.
-    Unknown,
+// What is at fault in a list.
+#[derive(Clone, Copy, Debug, PartialEq, Eq)]
+pub enum ListFault {
+    // It ends too soon: its length.
+    Ended(usize),
+    // The place of an item at fault, or of bytes that are left over.
+    Damaged(usize),
+    // The place of a number that is no variable's.
+    Unknown(usize),
 }
 
-// What reading a list answers.
-#[derive(Clone, Copy)]
-pub enum Listed {
-    // The number of pairs, and the place after them.
-    Pairs(usize, usize),
-    // What is at fault, and where.
-    Faulty(Fault, usize),
-}
+impl From<Fault> for ListFault {
+    ghost from_gives = { λ item e. e ≡ of_item item };
 
-// The fault of an item, as one of the list. (A value has none, and is not passed here.)
-fn faulty(item: Read) -> Listed
-    ensures { listed_of result ≡ item_fault (item_of item) }
-{
-    match item {
-        Read::Value(_, next) => Listed::Faulty(Fault::Damaged, next),
-        Read::Cut(place) => Listed::Faulty(Fault::Ended, place),
-        Read::Bad(place) => Listed::Faulty(Fault::Damaged, place),
+    fn from(item: Fault) -> ListFault {
+        match item {
+            Fault::Cut(place) => ListFault::Ended(place),
+            Fault::Bad(place) => ListFault::Damaged(place),
+        }
     }
 }
+
+impl From<ListFault> for Refused {
+    ghost from_gives = { λ met e. told (Err e) ≡ list_fault (listed_of (Err met)) };
+
+    fn from(met: ListFault) -> Refused {
+        match met {
+            ListFault::Ended(place) | ListFault::Damaged(place) => Refusal::List.at(place),
+            ListFault::Unknown(place) => Refusal::Variable.at(place),
+        }
+    }
+}
+
+// A pair that was read: its variable, and how many terms are kept of its sum.
+#[derive(Clone, Copy, Debug, Default, PartialEq, Eq)]
+pub struct Entry {
+    pub variable: u64,
+    pub terms: usize,
+}
+
+// The number of pairs, and the place after them.
+type Listed = Result<(usize, usize), ListFault>;
 
 // `count` pairs. A variable's number is judged before the sum that follows it is looked at.
 fn read_pairs(
     list: &[u8],
     at: usize,
     count: usize,
-    letters: &mut [u64],
-    counts: &mut [usize],
+    entries: &mut [Entry],
     patterns: &mut [u64],
     coefficients: &mut [i64],
 ) -> Listed
-    requires count_le_variables { count ≤ variables }
-    requires variables_in_bounds { variables ≤ length letters.old }
-    requires variables_in_bounds_2 { variables ≤ length counts.old }
-    requires work_places_in_bounds { work_places ≤ length patterns.old }
-    requires work_places_in_bounds_2 { work_places ≤ length coefficients.old }
-    ensures result_value { listed_of result ≡ mapped length (read_pairs variables count list.now at) }
-    ensures keeps_read { KeepsRead (read_pairs variables count list.now at) letters.new counts.new patterns.new
-        coefficients.new }
-    ensures patterns_unchanged { drop work_places patterns.new ≡ drop work_places patterns.old }
-    ensures coefficients_unchanged { drop work_places coefficients.new ≡ drop work_places coefficients.old }
+    requires few { count ≤ variables }
+    requires entries_room { variables ≤ length entries.old }
+    requires patterns_room { work_places ≤ length patterns.old }
+    requires coefficients_room { work_places ≤ length coefficients.old }
+    ensures { Leaves (read_pairs variables count list.now at) (listed_of result) patterns.old coefficients.old
+        entries.new patterns.new coefficients.new }
 {
     let mut place = at;
-    let mut j = 0;
-    while j < count {
-        let number = packed::reader::read_item(list, place);
-        let Read::Value(v, next) = number else {
-            return faulty(number);
-        };
-        if v >= Pattern::VARIABLES {
-            return Listed::Faulty(Fault::Unknown, place);
+    for j in 0..count {
+        let (variable, next) = packed::reader::read_item(list, place)?;
+        if variable >= Pattern::VARIABLES {
+            return Err(ListFault::Unknown(place));
         }
         let start = MOST_TERMS * j;
         let end = start + MOST_TERMS;
-        let sum = packed::read_sum(
+        let (n, after) = packed::read_sum(
             list,
             next,
             &mut patterns[start..end],
             &mut coefficients[start..end],
-        );
-        let Read::Value(n, after) = sum else {
-            return faulty(sum);
+        )?;
+        entries[j] = Entry {
+            variable,
+            terms: n as usize,
         };
-        letters[j] = v;
-        counts[j] = n as usize;
         place = after;
-        j += 1;
     }
-    Listed::Pairs(count, place)
+    Ok((count, place))
 }
 
 // The whole list.
 pub(crate) fn read_list(
     list: &[u8],
-    letters: &mut [u64],
-    counts: &mut [usize],
+    entries: &mut [Entry],
     patterns: &mut [u64],
     coefficients: &mut [i64],
 ) -> Listed
-    requires variables_in_bounds { variables ≤ length letters.old }
-    requires variables_in_bounds_2 { variables ≤ length counts.old }
-    requires work_places_in_bounds { work_places ≤ length patterns.old }
-    requires work_places_in_bounds_2 { work_places ≤ length coefficients.old }
-    ensures result_value { listed_of result ≡ mapped length (read_list variables list.now) }
-    ensures keeps_read { KeepsRead (read_list variables list.now) letters.new counts.new patterns.new
-        coefficients.new }
-    ensures patterns_unchanged { drop work_places patterns.new ≡ drop work_places patterns.old }
-    ensures coefficients_unchanged { drop work_places coefficients.new ≡ drop work_places coefficients.old }
+    requires entries_room { variables ≤ length entries.old }
+    requires patterns_room { work_places ≤ length patterns.old }
+    requires coefficients_room { work_places ≤ length coefficients.old }
+    ensures { Leaves (read_list variables list.now) (listed_of result) patterns.old coefficients.old
+        entries.new patterns.new coefficients.new }
 {
-    let item = packed::reader::read_item(list, 0);
-    let Read::Value(count, next) = item else {
-        return faulty(item);
-    };
+    let (count, next) = packed::reader::read_item(list, 0)?;
     if count > Pattern::VARIABLES {
-        return Listed::Faulty(Fault::Damaged, 0);
+        return Err(ListFault::Damaged(0));
     }
-    let pairs = read_pairs(
-        list,
-        next,
-        count as usize,
-        letters,
-        counts,
-        patterns,
-        coefficients,
-    );
-    let Listed::Pairs(_, end) = pairs else {
-        return pairs;
-    };
+    let (pairs, end) = read_pairs(list, next, count as usize, entries, patterns, coefficients)?;
     if end < list.len() {
-        return Listed::Faulty(Fault::Damaged, end);
+        return Err(ListFault::Damaged(end));
     }
-    pairs
-}
-
-// The refusal of a list at fault. (A list that was read has none, and is not passed here.)
-pub(crate) fn refused(read: Listed) -> Answer
-    ensures { told result ≡ list_fault (listed_of read) }
-{
-    match read {
-        Listed::Pairs(_, next) => Answer::Refused(Refusal::List, next),
-        Listed::Faulty(what, place) => match what {
-            Fault::Ended => Answer::Refused(Refusal::List, place),
-            Fault::Damaged => Answer::Refused(Refusal::List, place),
-            Fault::Unknown => Answer::Refused(Refusal::Variable, place),
-        },
-    }
+    Ok((pairs, end))
 }

@@ -9,22 +9,18 @@ ghost use Rattle.answers.specs.Areas.{written};
 ghost use Rattle.weights.specs.Capped.{capped};
 ghost use Rattle.sums.specs.Held.{HeldSum};
 
-use algebra::Pattern;
+use algebra::{Pattern, Terms};
 
 // The absolute coefficients of the slope, added: up to sixty times those of the sum, so they are found before any is formed.
-pub(crate) fn weigh(v: u64, sp: &[u64], sc: &[i64]) -> u64
-    requires v_lt_variables { v < variables }
-    requires held_sum { HeldSum sp.now sc.now }
-    ensures { result ≡ capped (weight (slope v (terms sp.now sc.now))) }
+pub(crate) fn weigh(v: u64, s: Terms) -> u64
+    requires known { v < variables }
+    requires held_sum { HeldSum s.patterns.now s.coefficients.now }
+    ensures { result ≡ capped (weight (slope v (terms s.entry.patterns.now s.entry.coefficients.now))) }
 {
-    let n = sp.len();
-    let mut weight: u64 = 0;
-    let mut k = 0;
-    while k < n {
-        let c = sc[k];
-        let power = Pattern(sp[k]).exponent(v);
-        weight = weights::sum(weight, weights::product(numbers::absolute(c), power));
-        k += 1;
+    let mut weight = 0;
+    for (word, c) in s.patterns.iter().zip(s.coefficients) {
+        let power = Pattern(*word).exponent(v);
+        weight = weights::sum(weight, weights::product(c.unsigned_abs(), power));
     }
     weight
 }
@@ -32,11 +28,11 @@ pub(crate) fn weigh(v: u64, sp: &[u64], sc: &[i64]) -> u64
 // A term without v goes, the others stay in order. No coefficient is too large: their weight was found to be at most 2^62.
 // The slope takes the places of the sum: a term is written after it was read, to its own place or one before it.
 pub(crate) fn form(v: u64, n: usize, patterns: &mut [u64], coefficients: &mut [i64]) -> usize
-    requires v_lt_variables { v < variables }
-    requires n_in_bounds { n ≤ length patterns.old }
-    requires n_in_bounds_2 { n ≤ length coefficients.old }
+    requires known { v < variables }
+    requires in_patterns { n ≤ length patterns.old }
+    requires in_coefficients { n ≤ length coefficients.old }
     requires held_sum { HeldSum (take n patterns.old) (take n coefficients.old) }
-    requires coefficients_bound { weight (slope v (first_terms n patterns.old coefficients.old)) ≤ largest_weight }
+    requires light { weight (slope v (first_terms n patterns.old coefficients.old)) ≤ largest_weight }
     ensures value { result ≡ length (slope v (first_terms n patterns.old coefficients.old)) }
     ensures patterns_after { patterns.new
         ≡ written (words_of (slope v (first_terms n patterns.old coefficients.old))) patterns.old }
@@ -44,19 +40,14 @@ pub(crate) fn form(v: u64, n: usize, patterns: &mut [u64], coefficients: &mut [i
         ≡ written (coefficients_of (slope v (first_terms n patterns.old coefficients.old))) coefficients.old }
 {
     let mut count = 0;
-    let mut k = 0;
-    while k < n {
+    for k in 0..n {
         let step = Pattern(patterns[k]).slope_step(v);
         if step.power == 0 {
-            k += 1;
-        } else {
-            let c = coefficients[k];
-            let slope = c * (step.power as i64);
-            patterns[count] = step.pattern.0;
-            coefficients[count] = slope;
-            count += 1;
-            k += 1;
+            continue;
         }
+        coefficients[count] = coefficients[k] * step.power as i64;
+        patterns[count] = step.pattern.0;
+        count += 1;
     }
     count
 }

@@ -1,5 +1,5 @@
 -- What `estimate_at` knows where it answers.
-use mathlib.Core.Path.{◌≡◌, refl, sym, ◌∙◌, ap, ap₂}
+use mathlib.Core.Path.{◌≡◌, sym, ◌∙◌, ap, ap₂}
 use mathlib.Core.List.{List}
 use Prim.Native.Nat.{ℕ, ◌-◌, ◌≤◌, ◌<◌}
 use native.Mathlib.Omega.{arith}
@@ -15,42 +15,28 @@ use Rattle.weights.specs.Capped.{capped}
 use Rattle.estimates.specs.Readings.{measured}
 use Rattle.estimates.specs.Inside.Parts.{Keeps}
 use Rattle.estimates.specs.Range.{judge_range}
-use Rattle.estimates.specs.Inside.Found.{found_of}
-use Rattle.estimates.specs.declared.Found.{Found}
-use Rattle.estimates.specs.declared.Found.TheVariants.{Within, Beyond}
+use Rattle.estimates.specs.declared.valuing.Parts.{Parts}
 use Rattle.estimates.proofs.JudgeTerms.{range-beyond, range-within}
 
--- ---- What is kept of the sum.
-
-module _ {s : Sum} {rs : List ℤ} (ts : List ℤ) {raised : List ℕ} {most plain : ℕ} {estimate : ℤ} (kept : Keeps most estimate plain s rs raised) (raised_is : raised ≡ raised_by rs (unsigned ts)) where
+module _ {s : Sum} {rs : List ℤ} (ts : List ℤ) {raised : List ℕ} {parts : Parts} (kept : Keeps parts s rs raised) (raised_is : raised ≡ raised_by rs (unsigned ts)) where
   abbrev whole : ℕ
   whole = size s (raised_by rs (unsigned ts))
 
-  most_is : capped most ≡ capped whole
+  most_is : capped parts.most ≡ capped whole
   most_is = kept.most_is ∙ ap (λ y. capped (size s y)) raised_is
 
-  pub beyond : largest_weight < most → judge_range s (measured rs ts) ≡ fails RANGE 0
+  pub beyond : largest_weight < parts.most → judge_range s (measured rs ts) ≡ fails RANGE 0
   beyond far = range-beyond s rs (unsigned ts) (omega (arith, most_is))
 
-  module _ (long : length rs ≡ length ts) (near : most ≤ largest_weight) where
-    exact : most ≡ whole
+  module _ (long : length rs ≡ length ts) (near : parts.most ≤ largest_weight) where
+    exact : parts.most ≡ whole
     exact = omega (arith, most_is)
 
-    pub plain_within : plain ≤ most
+    pub plain_within : parts.plain ≤ parts.most
     plain_within = omega (arith, exact, kept.plain_is near, margin-whole s rs (unsigned ts) (long ∙ sym (unsigned-length ts)))
 
-    pub within : {z : ℤ} → z ≡ estimate → judge_range s (measured rs ts) ≡ good (record { estimate = z; margin = most - plain })
+    pub within : {z : ℤ} → z ≡ parts.estimate → judge_range s (measured rs ts) ≡ good (record { estimate = z; margin = parts.most - parts.plain })
     unfolding margin
     within z-is =
         range-within s rs (unsigned ts) (omega (arith, exact))
         ∙ ap₂ (λ (e : ℤ) (m : ℕ). good (record { estimate = e; margin = m })) (sym (z-is ∙ kept.estimate_is near)) (sym (ap₂ (λ (m n : ℕ). m - n) exact (kept.plain_is near)))
-
--- ---- What was found.
-
--- it is no estimate
-abbrev pub NotWithin : Found → Type 0
-NotWithin f = (e : ℤ) (m : ℕ) → f ≡ Within e m → ⊥
-
-pub not_within : (f : Found) → NotWithin f → found_of f ≡ fails RANGE 0
-not_within (Within e m) not = absurd (not e m refl)
-not_within Beyond not = refl

@@ -14,7 +14,7 @@ use Rattle.algebra.proofs.Numbers.Whole.{*ℤ-assoc, *ℤ-oner}
 use Rattle.answers.proofs.Signed.{fits-abs}
 use Rattle.weights.specs.Capped.{capped}
 use Rattle.weights.proofs.Weighing.{capped-times, capped-times-right}
-use Rattle.estimates.specs.Inside.Parts.{Holds}
+use Rattle.estimates.specs.Inside.Held.{Holds, Sound}
 
 -- numbers themselves, however large the first is
 pub themselves : {m : ℕ} {n : ℤ} → nat_abs n ≤ m → Holds m n m n
@@ -27,6 +27,24 @@ no_number (negsuc k) h = absurd (omega arith)
 nothing-beside : (m m' : ℕ) → largest_weight < m → m * m' ≤ largest_weight → m' ≡ 0
 nothing-beside m zero heavy low = refl
 nothing-beside m (suc k) heavy low = absurd (omega (arith, mul-suc m k))
+
+-- ---- Two numbers alone.
+
+-- some products of which they are kept
+pub record Kept (most : ℕ) (product : ℤ) : Type 0 where
+  pub m : ℕ
+  pub n : ℤ
+  pub holds : Holds most product m n
+
+pub kept : (most : ℕ) (product : ℤ) → Sound most product → Kept most product
+kept most product sound = go (dec_lt largest_weight most)
+  where
+    go : Dec (largest_weight < most) → Kept most product
+    go (yes heavy) = record { m = most; n = pos 0; holds = record { most_is = refl; product_is = λ low. absurd (omega arith); within = omega arith } }
+    go (no light) = record { m = most; n = product; holds = themselves (sound (omega (arith, light))) }
+
+pub sound_of : {most : ℕ} {product : ℤ} {m : ℕ} {n : ℤ} → Holds most product m n → Sound most product
+sound_of h = λ low. omega (arith, h.most_is, h.within, ap nat_abs (h.product_is (omega (arith, h.most_is))))
 
 -- ---- One product.
 

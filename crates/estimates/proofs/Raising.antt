@@ -14,7 +14,7 @@ use Rattle.numbers.proofs.Signs.{held}
 use Rattle.algebra.specs.Limits.{variables}
 use Rattle.algebra.specs.Margin.{unsigned, raised_by}
 use Rattle.algebra.proofs.Sums.Margins.{raised-length, raised_at}
-use Rattle.estimates.specs.Inside.Parts.{Covers}
+use Rattle.estimates.specs.Inside.Held.{Covers}
 use Rattle.estimates.specs.Readings.{before_negative}
 use Rattle.estimates.proofs.Tolerances.{none-negative}
 

@@ -1,7 +1,7 @@
 -- What the loops keep that add terms up: what is kept of the terms so far.
 use mathlib.Core.Path.{◌≡◌, refl, sym, ◌∙◌, ap, ap₂}
 use mathlib.Core.List.{List, [], ◌∷◌, ◌++◌}
-use Prim.Native.Nat.{ℕ, suc, ◌+◌, ◌*◌, ◌≤◌, ◌<◌}
+use Prim.Native.Nat.{ℕ, ◌+◌, ◌*◌, ◌≤◌, ◌<◌}
 use native.Mathlib.Omega.{arith}
 use native.Mathlib.Numerals.{add-one}
 use lib.IntN.{ℤ, pos, nat_abs, ◌+ℤ◌, ◌*ℤ◌, +ℤ_idr}
@@ -21,42 +21,47 @@ use Rattle.algebra.proofs.Patterns.Held.{held-append}
 use Rattle.algebra.proofs.Sums.Margins.{size-append, term-abs}
 use Rattle.algebra.proofs.Sums.Values.{append-value, cons-value}
 use Rattle.answers.proofs.Signed.{fits-abs}
-use Rattle.estimates.specs.Inside.Parts.{Holds, Sound, Keeps, Allowed, Added}
+use Rattle.estimates.specs.declared.factors.Both.{Both}
+use Rattle.estimates.specs.declared.valuing.Parts.{Parts}
+use Rattle.estimates.specs.Inside.Held.{Holds}
+use Rattle.estimates.specs.Inside.Parts.{Keeps, Allowed, Added}
 
 -- ---- A term more.
 
-module _ {most : ℕ} {estimate : ℤ} {plain : ℕ} (a : Allowed most estimate plain) {raised : ℕ} {product : ℤ} (s : Sound raised product) where
-  pub too_large : {estimate' : ℤ} {plain' : ℕ} → largest_weight < most + raised → Added most estimate plain raised product (suc largest_weight) estimate' plain'
-  too_large far = record { most_is = omega arith; estimate_is = λ h. absurd (omega arith); plain_is = λ h. absurd (omega arith) }
+module _ (kept : Parts) (a : Allowed kept) (term : Both) where
+  module _ (near : kept.most + term.most ≤ largest_weight) where
+    -- the product at the readings is no larger than the raised one
+    pub within : nat_abs term.value ≤ term.most
+    within = term.sound (omega arith)
 
-  module _ (near : most + raised ≤ largest_weight) where
-    -- the product at the readings is exact, and no larger than the raised one
-    pub within : nat_abs product ≤ raised
-    within =
-        let low : s.m ≤ largest_weight = omega (arith, s.holds.most_is) in
-        let is = s.holds.product_is low in
-        omega (arith, ap nat_abs is, s.holds.most_is, s.holds.within)
+    pub estimate-fits : SFits w64 (kept.estimate +ℤ term.value)
+    estimate-fits = fits-abs (kept.estimate +ℤ term.value) (omega (arith, abs-add kept.estimate term.value, a.estimate_within, a.plain_within, within))
 
-    pub estimate-fits : SFits w64 (estimate +ℤ product)
-    estimate-fits = fits-abs (estimate +ℤ product) (omega (arith, abs-add estimate product, a.estimate_within, a.plain_within, within))
+  -- what is kept stays within, as long as it is allowed
+  pub still : {kept' : Parts} → Added kept term kept' → kept'.most ≤ largest_weight → Allowed kept'
+  still more near =
+      let in_all : kept.most + term.most ≤ largest_weight = omega (arith, more.most_is) in
+      record {
+        most_allowed = near;
+        plain_within = omega (arith, more.most_is, more.plain_is near, a.plain_within, within in_all);
+        estimate_within = omega (arith, ap nat_abs (more.estimate_is near), abs-add kept.estimate term.value, more.plain_is near, a.estimate_within);
+      }
 
-  pub is-added : Added most estimate plain raised product (most + raised) (estimate +ℤ product) (plain + nat_abs product)
-  is-added = record { most_is = refl; estimate_is = λ h. refl; plain_is = λ h. refl }
+pub nothing-allowed : Allowed (record { most = 0; estimate = pos 0; plain = 0 })
+nothing-allowed = record { most_allowed = omega arith; plain_within = omega arith; estimate_within = omega arith }
 
 -- ---- The terms so far: exact.
 
-pub record Adding (ws : List ℕ) (cs : List ℤ) (x : List ℤ) (y : List ℕ) (most : ℕ) (estimate : ℤ) (plain k : ℕ) : Type 0 where
-  pub allowed : Allowed most estimate plain
-  pub most_is : most ≡ size (first_terms k ws cs) y
-  pub estimate_is : estimate ≡ value (first_terms k ws cs) x
-  pub plain_is : plain ≡ size (first_terms k ws cs) (unsigned x)
+pub record Adding (ws : List ℕ) (cs : List ℤ) (x : List ℤ) (y : List ℕ) (kept : Parts) (k : ℕ) : Type 0 where
+  pub most_is : kept.most ≡ size (first_terms k ws cs) y
+  pub estimate_is : kept.estimate ≡ value (first_terms k ws cs) x
+  pub plain_is : kept.plain ≡ size (first_terms k ws cs) (unsigned x)
   pub as_many : length cs ≡ length ws
   pub inside : k ≤ length ws
 
-pub start : {ws : List ℕ} {cs x : List ℤ} {y : List ℕ} → length cs ≡ length ws → Adding ws cs x y 0 (pos 0) 0 0
+pub start : {ws : List ℕ} {cs x : List ℤ} {y : List ℕ} → length cs ≡ length ws → Adding ws cs x y (record { most = 0; estimate = pos 0; plain = 0 }) 0
 unfolding terms terms_by size value total
 start as_many = record {
-  allowed = record { most_allowed = omega arith; plain_within = omega arith; estimate_within = omega arith };
   most_is = refl;
   estimate_is = refl;
   plain_is = refl;
@@ -67,7 +72,7 @@ start as_many = record {
 one_more : {A : Type 0} (l : List A) (k : ℕ) (d : A) → k < length l → take (k + 1) l ≡ take k l ++ (get_or l k d ∷ [])
 one_more l k d h = rw add-one (take-suc l k d h)
 
-module _ {ws : List ℕ} {cs x : List ℤ} {y : List ℕ} {most : ℕ} {estimate : ℤ} {plain k : ℕ} (a : Adding ws cs x y most estimate plain k) where
+module _ {ws : List ℕ} {cs x : List ℤ} {y : List ℕ} {kept : Parts} {k : ℕ} (a : Adding ws cs x y kept k) where
   module _ (h : k < length ws) where
     abbrev c : ℤ
     c = get_or cs k (pos 0)
@@ -105,19 +110,14 @@ module _ {ws : List ℕ} {cs x : List ℤ} {y : List ℕ} {most : ℕ} {estimate
     all : size (first_terms (k + 1) ws cs) y ≤ size (terms ws cs) y
     all = omega (arith, ap (λ s. size s y) split, size-append y (first_terms (k + 1) ws cs) (terms (drop (k + 1) ws) (drop (k + 1) cs)))
 
-    module _ {raised : ℕ} {product : ℤ} (here : Holds raised product (nat_abs c * pattern_size p y) (c *ℤ pattern_value p x)) {most' : ℕ} {estimate' : ℤ} {plain' : ℕ} (more : Added most estimate plain raised product most' estimate' plain') where
-      pub again : most' ≤ largest_weight → Adding ws cs x y most' estimate' plain' (k + 1)
+    module _ (term' : Both) (here : Holds term'.most term'.value (nat_abs c * pattern_size p y) (c *ℤ pattern_value p x)) {kept' : Parts} (more : Added kept term' kept') where
+      pub again : kept'.most ≤ largest_weight → Adding ws cs x y kept' (k + 1)
       again near =
           let low : nat_abs c * pattern_size p y ≤ largest_weight = omega (arith, more.most_is, here.most_is) in
           let is = here.product_is low in
-          let most-more : most' ≡ most + nat_abs c * pattern_size p y = omega (arith, more.most_is, here.most_is) in
-          let plain_more : plain' ≡ plain + nat_abs (c *ℤ pattern_value p x) = more.plain_is near ∙ ap (λ z. plain + nat_abs z) is in
+          let most-more : kept'.most ≡ kept.most + nat_abs c * pattern_size p y = omega (arith, more.most_is, here.most_is) in
+          let plain_more : kept'.plain ≡ kept.plain + nat_abs (c *ℤ pattern_value p x) = more.plain_is near ∙ ap (λ z. kept.plain + nat_abs z) is in
           record {
-            allowed = record {
-              most_allowed = near;
-              plain_within = omega (arith, most-more, plain_more, a.allowed.plain_within, here.within);
-              estimate_within = omega (arith, ap nat_abs (more.estimate_is near), abs-add estimate product, more.plain_is near, a.allowed.estimate_within);
-            };
             most_is = omega (arith, most-more, a.most_is, size-more y);
             estimate_is = more.estimate_is near ∙ ap₂ (λ u v. u +ℤ v) a.estimate_is is ∙ sym value-more;
             plain_is = omega (arith, plain_more, term-abs (term c p) x, a.plain_is, size-more (unsigned x));
@@ -125,14 +125,14 @@ module _ {ws : List ℕ} {cs x : List ℤ} {y : List ℕ} {most : ℕ} {estimate
             inside = omega arith;
           }
 
-      pub beyond : largest_weight < most' → Keeps most' estimate' plain' (terms ws cs) x y
+      pub beyond : largest_weight < kept'.most → Keeps kept' (terms ws cs) x y
       beyond far = record {
         most_is = omega (arith, more.most_is, here.most_is, a.most_is, size-more y, all);
         estimate_is = λ low. absurd (omega arith);
         plain_is = λ low. absurd (omega arith);
       }
 
-  pub ended : length ws ≤ k → Keeps most estimate plain (terms ws cs) x y
+  pub ended : length ws ≤ k → Keeps kept (terms ws cs) x y
   ended h =
       let short : length cs ≤ k = omega (arith, a.as_many) in
       let all : first_terms k ws cs ≡ terms ws cs = ap₂ terms (take_all k ws h) (take_all k cs short) in

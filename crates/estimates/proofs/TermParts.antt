@@ -1,10 +1,10 @@
 -- What the loops keep that form a term: what was multiplied so far, times the powers of the variables that are left, is the whole term; once at the
 -- readings, and once raised.
 use mathlib.Core.Path.{◌≡◌, refl, sym, ◌∙◌, ap, ap₂}
-use mathlib.Core.List.{List, ◌∷◌}
+use mathlib.Core.List.{List, [], ◌∷◌}
 use Prim.Native.Nat.{ℕ, ◌+◌, ◌*◌, ◌^◌, ◌≤◌, ◌<◌}
 use native.Mathlib.Omega.{arith}
-use native.Mathlib.Nat.{le_refl, mul_assoc, mul-one}
+use native.Mathlib.Nat.{le_refl, le_trans, mul_assoc, mul-one}
 use native.Mathlib.Numerals.{add-one}
 use lib.IntN.{ℤ, pos, nat_abs, ◌*ℤ◌, pow}
 use lib.ListN.{length, get_or, drop, drop_of_length-le}
@@ -14,7 +14,9 @@ use Rattle.algebra.specs.Pattern.{Pattern, exponent}
 use Rattle.algebra.specs.Value.{pattern_value}
 use Rattle.algebra.specs.Margin.{pattern_size}
 use Rattle.algebra.proofs.Numbers.Whole.{*ℤ-assoc, *ℤ-oner}
-use Rattle.estimates.specs.Inside.Parts.{Covers, Holds, Sound}
+use Rattle.estimates.specs.declared.factors.Both.{Both}
+use Rattle.estimates.specs.Inside.Held.{Covers, Holds}
+use Rattle.estimates.specs.Inside.Powers.{Multiplies, Rows, TimesAt, Uses}
 use Rattle.estimates.proofs.Multiplying.{themselves, no-times}
 
 -- m and n are the products so far, however large
@@ -25,6 +27,28 @@ pub record Forming (c : ℤ) (p : Pattern) (x : List ℤ) (y : List ℕ) (most :
   pub size_is : m * pattern_size (drop v p) (drop v y) ≡ nat_abs c * pattern_size p y
   pub value_is : n *ℤ pattern_value (drop v p) (drop v x) ≡ c *ℤ pattern_value p x
   pub inside : v ≤ variables
+
+-- what multiplies for the patterns of all words does it for one of them
+pub alone : {post post' : Both → ℕ → ℕ → Both → Type 0} {x : List ℤ} {y : List ℕ} {ws : List ℕ} {w : ℕ} → Multiplies post x y ws → (k : ℕ) → k < length ws → w ≡ get_or ws k 0
+    → ((a result : Both) (v e : ℕ) → post' a v e result → post a v e result) → Multiplies post' x y (w ∷ [])
+alone {w = w} m k h is by = record {
+  readings_long = m.readings_long;
+  raised_long = m.raised_long;
+  times = λ a result j v e one inside some low answers.
+      let first : j ≡ 0 = omega arith in
+      m.times a result k v e h inside some (rw (first, is) at low) (by a result v e answers);
+}
+
+-- so does a table that has the powers up to a pattern that has all exponents
+pub by_table : {post : Both → ℕ → ℕ → Both → Type 0} {x : List ℤ} {y : List ℕ} {ws : List ℕ} (used : Pattern) (rows : List (List Both)) → Covers x y → Rows x y used rows → Uses used ws
+    → ((a result : Both) (v e : ℕ) → post a v e result → TimesAt a (get_or rows v []) e result) → Multiplies post x y ws
+by_table used table covers rows uses at = record {
+  readings_long = covers.readings_long;
+  raised_long = covers.raised_long;
+  times = λ a result k v e h inside some low answers.
+      let power = rows v inside e some (le_trans low (uses k h v)) in
+      λ m n holds. at a result v e answers a power.in_row m _ n _ holds (power.power a);
+}
 
 -- ---- The powers from variable v on.
 
@@ -55,11 +79,8 @@ start {c} a-is = record {
 }
 
 module _ {c : ℤ} {p : Pattern} {x : List ℤ} {y : List ℕ} {most : ℕ} {product : ℤ} {v : ℕ} (f : Forming c p x y most product v) where
-  pub sound : Sound most product
-  sound = record { m = f.m; n = f.n; holds = f.holds }
-
   module _ (long : length p ≡ variables) where
-    module _ (covers : Covers x y) (h : v < variables) {e : ℕ} (e-is : e ≡ exponent v p) where
+    module _ (x_long : length x ≡ variables) (y_long : length y ≡ variables) (h : v < variables) {e : ℕ} (e-is : e ≡ exponent v p) where
       abbrev r : ℤ
       r = get_or x v (pos 0)
 
@@ -78,10 +99,10 @@ module _ {c : ℤ} {p : Pattern} {x : List ℤ} {y : List ℕ} {most : ℕ} {pro
             holds = holds;
             size_is =
                 mul_assoc f.m (b ^ e) size-left ∙ ap (λ (i : ℕ). f.m * (b ^ i * size-left)) e-is
-                ∙ ap (λ (i : ℕ). f.m * i) (sym (size-next p v here y (omega (arith, covers.raised_long)))) ∙ f.size_is;
+                ∙ ap (λ (i : ℕ). f.m * i) (sym (size-next p v here y (omega (arith, y_long)))) ∙ f.size_is;
             value_is =
                 *ℤ-assoc f.n (pow r e) value-left ∙ ap (λ (i : ℕ). f.n *ℤ (pow r i *ℤ value-left)) e-is
-                ∙ ap (λ z. f.n *ℤ z) (sym (value-next p v here x (omega (arith, covers.readings_long)))) ∙ f.value_is;
+                ∙ ap (λ z. f.n *ℤ z) (sym (value-next p v here x (omega (arith, x_long)))) ∙ f.value_is;
             inside = omega arith;
           }
 

@@ -1,12 +1,12 @@
 -- Each public function's contract leaves one outcome, as its caller sees it: the result, and what it finds in an area that it lent.
 use mathlib.Core.Path.{◌≡◌, refl, sym, ap, ◌∙◌}
+use Rattle.std.specs.Prelude.{Option, Some, None}
 use Rattle.answers.specs.Judge.{Judged, Judged.good, Judged.fails}
 use Rattle.answers.proofs.Outcomes.{same}
 use Rattle.answers.specs.Promised.{One, OneLent}
 use Rattle.estimates.specs.Range.{Estimate}
 use Rattle.estimates.specs.Inside.Found.{found_of}
-use Rattle.estimates.specs.declared.Found.{Found}
-use Rattle.estimates.specs.declared.Found.TheVariants.{Within, Beyond}
+use Rattle.estimates.specs.declared.Estimate.{Estimate as Found}
 use Rattle.estimates.proofs.estimate_at.Reads as estimate-at
 use Rattle.estimates.proofs.readings.before_negative.Reads as before-negative
 use Rattle.estimates.proofs.readings.raise.Reads as raise
@@ -14,16 +14,16 @@ use Rattle.estimates.proofs.readings.read_numbers.Reads as read-numbers
 
 -- ---- Different answers say different things.
 
-answer_of : Judged Estimate → Found
-answer_of (good e) = Within e.estimate e.margin
-answer_of (fails refusal place) = Beyond
+answer_of : Judged Estimate → Option Found
+answer_of (good e) = Some (record { value = e.estimate; margin = e.margin })
+answer_of (fails refusal place) = None
 
-answer-of : (f : Found) → answer_of (found_of f) ≡ f
+answer-of : (f : Option Found) → answer_of (found_of f) ≡ f
 unfolding answer_of
-answer-of (Within e m) = refl
-answer-of Beyond = refl
+answer-of (Some e) = refl
+answer-of None = refl
 
-found-one : (f f' : Found) → found_of f ≡ found_of f' → f ≡ f'
+found-one : (f f' : Option Found) → found_of f ≡ found_of f' → f ≡ f'
 found-one f f' h = sym (answer-of f) ∙ ap answer_of h ∙ answer-of f'
 
 -- ---- The functions.

@@ -1,4 +1,5 @@
 -- What contracts of helpers and of private functions name, and no other: no promise of an operation rests on it.
 pub mod Found
+pub mod Held
 pub mod Parts
 pub mod Powers

@@ -1,58 +1,37 @@
-// Tables of powers, for sums of many terms: a row for each variable, with the power e at place e of the row. One table is for the raised readings, the other for the readings themselves.
-ghost use Rattle.std.specs.Prelude.{◌≡◌, ◌+◌, ◌≤◌, ◌<◌, nat_abs, length};
+// Tables of powers, for sums of many terms: a row for each variable, with the power e at place e of the row.
+ghost use Rattle.std.specs.Prelude.{◌≤◌, ◌<◌, nat_abs, length};
 ghost use Rattle.algebra.specs.Word.{exponents};
-ghost use Rattle.estimates.specs.Inside.Parts.{Covers};
-ghost use Rattle.estimates.specs.Inside.Powers.{stride, RowFrom, Rows, Under};
+ghost use Rattle.estimates.specs.Inside.Powers.{Row, Rows, Under};
 
-use crate::{VARIABLES, factors};
+use crate::VARIABLES;
+use crate::factors::Both;
+use crate::readings::Readings;
 use algebra::Pattern;
 
-// The powers of one reading from 1 up to `top`, after a place of both tables.
-fn fill_row(
-    upper: &mut [u64],
-    powers: &mut [i64],
-    start: usize,
-    raised: u64,
-    reading: i64,
-    top: usize,
-)
-    requires top_in_bounds { start + top < length upper.old }
-    requires top_in_bounds_2 { start + top < length powers.old }
-    requires reading_bound { nat_abs reading ≤ raised }
-    ensures { RowFrom raised reading top start upper.old powers.old upper.new powers.new }
+// The powers of one reading, up to `top`.
+fn fill_row<const N: usize>(row: &mut [Both; N], factor: Both, top: usize)
+    requires top_in_bounds { top < N }
+    requires reading_bound { nat_abs factor.value ≤ factor.most }
+    ensures { Row factor.most factor.value top row.new }
 {
-    let mut raised_power = 1;
-    let mut power = 1;
-    let mut e = 0;
-    while e < top {
-        let next = factors::times(raised_power, power, raised, reading);
-        raised_power = next.most;
-        power = next.value;
-        e += 1;
-        upper[start + e] = raised_power;
-        powers[start + e] = power;
+    let mut power = Both::of(1);
+    for e in 0..top {
+        power = power.times(factor);
+        row[e + 1] = power;
     }
 }
 
 // A row for each reading, as far as its exponent goes in a pattern that has all of a sum's.
-pub(crate) fn fill(
-    upper: &mut [u64],
-    powers: &mut [i64],
-    readings: &[i64],
-    raised: &[u64],
+pub(crate) fn fill<const N: usize>(
+    table: &mut [[Both; N]; VARIABLES],
+    readings: Readings,
     used: Pattern,
 )
-    requires covers { Covers readings.now raised.now }
-    requires under { Under (stride upper.old) (exponents used.0) }
-    requires powers_len { length powers.old ≡ length upper.old }
-    ensures { Rows readings.now raised.now (exponents used.0) upper.new powers.new }
+    requires { Under N (exponents used.0) }
+    ensures { Rows readings.entry.readings.now readings.entry.raised.now (exponents used.0) table.new }
 {
-    let stride = upper.len() / VARIABLES;
-    let mut v = 0;
-    while v < readings.len() {
-        let reading = readings[v];
+    for v in 0..VARIABLES {
         let top = used.exponent(v as u64) as usize;
-        fill_row(upper, powers, v * stride, raised[v], reading, top);
-        v += 1;
+        fill_row(&mut table[v], readings.at(v), top);
     }
 }

@@ -5,18 +5,16 @@ use mathlib.Core.List.{List, []}
 use Prim.Native.Nat.{ℕ, suc, ◌+◌, ◌*◌, ◌-◌, ◌/◌, ◌≤◌}
 use native.Mathlib.Omega.{arith}
 use lib.IntN.{ℤ}
-use lib.ListN.{length, take}
+use lib.ListN.{length, take, drop, length-map}
 use lib.Seq.{sets}
-use borrow.Rule.Slice.PartMut.{mid_of}
 use Rattle.algebra.specs.Limits.{variables, most_terms, work_places}
 use Rattle.algebra.specs.Word.{terms, EachValid}
-use Rattle.algebra.specs.Held.{first_terms}
+use Rattle.algebra.specs.Held.{words_of, coefficients_of}
 use Rattle.algebra.specs.Accepted.{Accepted}
-use Rattle.answers.proofs.Refusing.{NotDone}
 use Rattle.answers.specs.Refusals.{SHAPE, number}
 use Rattle.answers.specs.Answers.{Told.done, Told.refused, told, outcome}
-use Rattle.answers.specs.declared.Answer.{Answer}
-use Rattle.answers.specs.declared.Answer.TheVariants.{Done, Refused}
+use Rattle.answers.specs.declared.Refused.{Refused}
+use Rattle.std.specs.Prelude.{Result, Ok, Err}
 use Rattle.packed.specs.Packed.{packed, most_bytes}
 use Rattle.packed.specs.Result.{packed_into}
 use Rattle.packed.proofs.Results.{result_room, result-written}
@@ -26,7 +24,7 @@ use Rattle.answers.specs.Judge.{Judged, Judged.good, Judged.fails, and_then}
 use Rattle.formula.specs.Table.{Entry, judge_nodes, is_shape}
 use Rattle.formula.specs.Simplify.{last_sum, table_sum}
 use Rattle.formula.specs.Inside.Last.{terms_told, KeepsLast}
-use Rattle.sums.proofs.Parts.{span, lent, lent_length}
+use Rattle.sums.proofs.Parts.{lent-front}
 use Rattle.formula.proofs.Passing.{passed_length, table-length, shape-judge, no-shape-judge, judge-says}
 use Rattle.formula.proofs.Meaning.{last-accepted}
 use Rattle.formula.proofs.Simplifying.{shape-says}
@@ -49,10 +47,9 @@ module _ (table : List ℤ) (area : List ℕ) where
   refused-so (good es) refusal p e = let z : ◌≡◌ {A = ℕ} 0 1 = cc in absurd (omega arith)
   refused-so (fails r q) refusal p e = ap (λ t. outcome t area) e
 
-  pub node-refused : is_shape (length table) ≡ true → (r : Answer) → NotDone r → told r ≡ terms_told (judge_nodes [] table)
-      → outcome (told r) area ≡ packed_into (table_sum table) area
-  node-refused h (Done n) key e = absurd (key n refl)
-  node-refused h (Refused refusal p) key e = refused-so (judge_nodes [] table) (number refusal) p e ∙ by-nodes h refl
+  pub node-refused : is_shape (length table) ≡ true → {r : Result ℕ Refused} {e : Refused} → r ≡ Err e → told r ≡ terms_told (judge_nodes [] table)
+      → outcome (told (Err e)) area ≡ packed_into (table_sum table) area
+  node-refused h {e = e} is says = refused-so (judge_nodes [] table) (number e.refusal) e.place (sym (ap told is) ∙ says) ∙ by-nodes h refl
 
 -- ---- All nodes have passed, and the last one's sum stands in its part.
 
@@ -64,12 +61,12 @@ pub record Formed (table : List ℤ) (ws : List ℕ) (cs : List ℤ) (count : �
   pub shape : is_shape (length table) ≡ true
   pub es : List Entry
   pub judged : judge_nodes [] table ≡ good es
-  pub terms_are : first_terms count (part (last_of table) ws) (part (last_of table) cs) ≡ last_sum es
-  pub words_valid : EachValid (take count (part (last_of table) ws))
+  pub words_are : take count (part (last_of table) ws) ≡ words_of (last_sum es)
+  pub coefficients_are : take count (part (last_of table) cs) ≡ coefficients_of (last_sum es)
   pub accepted : Accepted variables (last_sum es)
   pub many : length (last_sum es) ≡ count
 
-pub formed : (table : List ℤ) (ws : List ℕ) (cs : List ℤ) {count : ℕ} {r : Answer} → is_shape (length table) ≡ true → r ≡ Done count
+pub formed : (table : List ℤ) (ws : List ℕ) (cs : List ℤ) {count : ℕ} {r : Result ℕ Refused} → is_shape (length table) ≡ true → r ≡ Ok count
     → told r ≡ terms_told (judge_nodes [] table) → KeepsLast (judge_nodes [] table) ws cs → Formed table ws cs count
 formed table ws cs {count} {r} shape is says keeps = go (judge_nodes [] table) refl
   where
@@ -83,46 +80,51 @@ formed table ws cs {count} {r} shape is says keeps = go (judge_nodes [] table) r
         let three = (shape-says (length table) shape).three_each in
         let all = judge-says table (omega (arith, three)) e in
         let last : length es - 1 ≡ last_of table = omega (arith, passed_length all.passed, table-length all.ks, ap length all.table_is) in
-        let accepted = last-accepted all.passed in
-        let words = ap₂ (λ (n m : ℕ). take n (part m ws)) (sym many) (sym last) ∙ keeps.words_are es e in
         record {
           shape = shape;
           es = es;
           judged = e;
-          terms_are =
-              ap₂ (λ (n m : ℕ). first_terms n (part m ws) (part m cs)) (sym many) (sym last)
-              ∙ ap₂ terms (keeps.words_are es e) (keeps.coefficients_are es e)
-              ∙ spells (accepted-holdable accepted);
-          words_valid = subst EachValid (sym words) (each-valid (holds (accepted-holdable accepted)));
-          accepted = accepted;
+          words_are = ap₂ (λ (n m : ℕ). take n (part m ws)) (sym many) (sym last) ∙ keeps.words_are es e;
+          coefficients_are = ap₂ (λ (n m : ℕ). take n (part m cs)) (sym many) (sym last) ∙ keeps.coefficients_are es e;
+          accepted = last-accepted all.passed;
           many = many;
         }
 
 module _ {table : List ℤ} {ws : List ℕ} {cs : List ℤ} {count : ℕ} (f : Formed table ws cs count) where
-  abbrev lent_words : List ℕ
-  lent_words = mid_of (most_terms * last_of table) (span (last_of table)) ws
+  abbrev start : ℕ
+  start = most_terms * last_of table
 
-  abbrev lent_coefficients : List ℤ
-  lent_coefficients = mid_of (most_terms * last_of table) (span (last_of table)) cs
+  -- what the code lends of an area
+  abbrev front : {A : Type 0} → List A → List A
+  front xs = take (start + count - start) (drop start xs)
 
   pub in-work : most_terms * suc (last_of table) ≤ work_places
   in-work = let s = shape-says (length table) f.shape in omega (arith, s.few, s.some)
 
-  pub in_lent : {A : Type 0} (xs : List A) → work_places ≤ length xs → count ≤ length (mid_of (most_terms * last_of table) (span (last_of table)) xs)
-  in_lent xs room = omega (arith, f.many, f.accepted.few, lent_length (last_of table) xs (omega (arith, in-work)))
+  pub in-part : count ≤ most_terms
+  in-part = omega (arith, f.many, f.accepted.few)
 
-  last-held : first_terms count lent_words lent_coefficients ≡ last_sum f.es
-  last-held = ap₂ (first_terms count) (lent (last_of table) ws) (lent (last_of table) cs) ∙ f.terms_are
+  words_lent : front ws ≡ words_of (last_sum f.es)
+  words_lent = lent-front (last_of table) count in-part ws ∙ f.words_are
 
-  pub valid : EachValid (take count (mid_of (most_terms * last_of table) (span (last_of table)) ws))
-  valid = subst (λ l. EachValid (take count l)) (sym (lent (last_of table) ws)) f.words_valid
+  coefficients_lent : front cs ≡ coefficients_of (last_sum f.es)
+  coefficients_lent = lent-front (last_of table) count in-part cs ∙ f.coefficients_are
+
+  pub as-many : length (take (start + count - start) (drop start cs)) ≡ length (take (start + count - start) (drop start ws))
+  as-many = ap length coefficients_lent ∙ length-map (last_sum f.es) _ ∙ sym (ap length words_lent ∙ length-map (last_sum f.es) _)
+
+  pub valid : EachValid (take (start + count - start) (drop start ws))
+  valid = subst EachValid (sym words_lent) (each-valid (holds (accepted-holdable f.accepted)))
+
+  last-held : terms (front ws) (front cs) ≡ last_sum f.es
+  last-held = ap₂ terms words_lent coefficients_lent ∙ spells (accepted-holdable f.accepted)
 
   module _ (area : List ℕ) (room : most_bytes variables ≤ length area) where
-    pub has_room : 0 + length (packed (first_terms count lent_words lent_coefficients)) ≤ length area
-    has_room = result_room (last_sum f.es) count lent_words lent_coefficients area last-held f.accepted room
+    pub has_room : 0 + length (packed (terms (take (start + count - start) (drop start ws)) (take (start + count - start) (drop start cs)))) ≤ length area
+    has_room = result_room (last_sum f.es) (start + count - start) (drop start ws) (drop start cs) area last-held f.accepted room
 
-    pub all-written : {n : ℕ} {area' : List ℕ} → n ≡ 0 + length (packed (first_terms count lent_words lent_coefficients))
-        → area' ≡ sets area 0 (packed (first_terms count lent_words lent_coefficients)) → outcome (done n) area' ≡ packed_into (table_sum table) area
+    pub all-written : {n : ℕ} {area' : List ℕ} → n ≡ 0 + length (packed (terms (take (start + count - start) (drop start ws)) (take (start + count - start) (drop start cs))))
+        → area' ≡ sets area 0 (packed (terms (take (start + count - start) (drop start ws)) (take (start + count - start) (drop start cs)))) → outcome (done n) area' ≡ packed_into (table_sum table) area
     unfolding and_then
     all-written there now =
-        result-written (last_sum f.es) count lent_words lent_coefficients area last-held f.accepted room there now ∙ by-nodes table area f.shape f.judged
+        result-written (last_sum f.es) (start + count - start) (drop start ws) (drop start cs) area last-held f.accepted room there now ∙ by-nodes table area f.shape f.judged

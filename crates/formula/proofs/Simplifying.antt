@@ -19,6 +19,7 @@ use Rattle.packed.proofs.Working.{each_holds, has_room, tested-room, tested-none
 use Rattle.packed.specs.Promised.{WorkRoom, cleared_with}
 use Rattle.nodes.specs.Node.{Kind, table_of}
 use Rattle.formula.specs.Table.{Entry, judge_nodes, is_shape}
+use Rattle.formula.specs.Inside.Shape.{Shaped}
 use Rattle.formula.specs.Simplify.{last_sum, table_sum, simplify}
 use Rattle.formula.specs.Checks.{Passed, FirstFault}
 use Rattle.formula.specs.Promised.{Simplified, SimplifyRefuses, SimplifyRefuses.no_room, SimplifyRefuses.no_shape, SimplifyRefuses.at_node}
@@ -26,12 +27,6 @@ use Rattle.formula.proofs.Passing.{table-length, AllPass, all-judge, fault-judge
 use Rattle.formula.proofs.Meaning.{last-accepted, passed-means}
 
 -- ---- SHAPE.
-
--- a table of so many nodes, three numbers each
-pub record Shaped (n nodes : ℕ) : Type 0 where
-  pub three_each : n ≡ 3 * nodes
-  pub some : 1 ≤ nodes
-  pub few : nodes ≤ most_nodes
 
 pub shape-says : (n : ℕ) → is_shape n ≡ true → Shaped n (n / 3)
 unfolding is_shape

@@ -1,5 +1,5 @@
 -- The sums of the nodes before stand in their parts of the work areas; and that of one node more.
-use mathlib.Core.Path.{◌≡◌, refl, sym, ◌∙◌, ap, ap₂, subst}
+use mathlib.Core.Path.{◌≡◌, sym, ◌∙◌, ap, ap₂, subst}
 use mathlib.Core.List.{List, [], ◌∷◌, ◌++◌}
 use Prim.Native.Nat.{ℕ, ◌+◌, ◌*◌, ◌-◌, ◌<◌}
 use native.Mathlib.Omega.{arith}
@@ -90,16 +90,15 @@ module _ (es : List Entry) {i : ℕ} (count : length es ≡ i) (ns ws : List ℕ
           rw (at-end, get_or-set_same ns i n 0 room, get_or_at es e [] (entry 0 0 []) i count) s
 
 -- the last of them
-pub stand-last : (es : List Entry) (ns ws : List ℕ) (cs : List ℤ) → AllStand es ns ws cs → 0 < length es
-    → KeptAt (length (last_sum es)) (length es - 1) ws cs (last_sum es)
-stand-last es ns ws cs stand some =
-    let j = length es - 1 in
-    let s = stand j (omega arith) in
-    rw (sum_of es j) (record {
-      many = refl;
-      words_are = rw s.many s.words_are;
-      coefficients_are = rw s.many s.coefficients_are;
-    })
+module _ (es : List Entry) (ns ws : List ℕ) (cs : List ℤ) (stand : AllStand es ns ws cs) (some : 0 < length es) where
+  last : KeptAt (get_or ns (length es - 1) 0) (length es - 1) ws cs (last_sum es)
+  last = rw (sum_of es (length es - 1)) (stand (length es - 1) (omega arith))
+
+  pub last-many : get_or ns (length es - 1) 0 ≡ length (last_sum es)
+  last-many = sym last.many
+
+  pub stand-last : KeptAt (length (last_sum es)) (length es - 1) ws cs (last_sum es)
+  stand-last = rw last-many at last
 
 pub last-keeps : {judged : Judged (List Entry)} {es : List Entry} {ws : List ℕ} {cs : List ℤ} → judged ≡ good es
     → KeptAt (length (last_sum es)) (length es - 1) ws cs (last_sum es) → KeepsLast judged ws cs

@@ -13,16 +13,12 @@ ghost use Rattle.change.specs.Substitute.{substitute};
 ghost use Rattle.router.specs.Estimate as router;
 ghost use Rattle.spelling.specs.WriteText.{write_text};
 
-// What 1 of a refusal's number counts: above every place, and every number that an operation returns.
-const HOST_UNIT: u64 = 4294967296;
-
-// The scope's own unit, for the estimate alone.
-const ESTIMATE_UNIT: u64 = 65536;
+use answers::{NARROW_UNIT, WIDE_UNIT, for_host};
 
 pub fn reeveboom_text(text: &[u8], table: &mut [i64]) -> u64
     ensures { (result, table.new) ≡ hosted wide_unit (read_formula text.now table.old) }
 {
-    text::read_formula(text, table).for_host(HOST_UNIT)
+    for_host(text::read_formula(text, table), WIDE_UNIT)
 }
 
 // The result area comes before the work areas here, and after them in the operation.
@@ -35,26 +31,32 @@ pub fn reeveboom_simplify(
     ensures { (result, (patterns.new, coefficients.new, res.new))
         ≡ hosted wide_unit (simplify table.now patterns.old coefficients.old res.old) }
 {
-    formula::simplify(table, patterns, coefficients, res).for_host(HOST_UNIT)
+    for_host(
+        formula::simplify(table, patterns, coefficients, res),
+        WIDE_UNIT,
+    )
 }
 
 pub fn reeveboom_unpack(sum: &[u8], patterns: &mut [u64], coefficients: &mut [i64]) -> u64
     ensures { (result, (patterns.new, coefficients.new))
         ≡ hosted wide_unit (unpack sum.now patterns.old coefficients.old) }
 {
-    packed::unpack(sum, patterns, coefficients).for_host(HOST_UNIT)
+    for_host(packed::unpack(sum, patterns, coefficients), WIDE_UNIT)
 }
 
 pub fn reeveboom_pack(count: u64, patterns: &[u64], coefficients: &[i64], res: &mut [u8]) -> u64
     ensures { (result, res.new) ≡ hosted wide_unit (pack count patterns.now coefficients.now res.old) }
 {
-    packed::pack(count as usize, patterns, coefficients, res).for_host(HOST_UNIT)
+    for_host(
+        packed::pack(count as usize, patterns, coefficients, res),
+        WIDE_UNIT,
+    )
 }
 
 pub fn reeveboom_slope(sum: &[u8], variable: u64, res: &mut [u8]) -> u64
     ensures { (result, res.new) ≡ hosted wide_unit (slope sum.now variable res.old) }
 {
-    change::slope(sum, variable, res).for_host(HOST_UNIT)
+    for_host(change::slope(sum, variable, res), WIDE_UNIT)
 }
 
 // The result area comes before the work areas here, and after them in the operation.
@@ -68,7 +70,10 @@ pub fn reeveboom_substitute(
     ensures { (result, (patterns.new, coefficients.new, res.new))
         ≡ hosted wide_unit (substitute sum.now list.now patterns.old coefficients.old res.old) }
 {
-    change::substitute(sum, list, patterns, coefficients, res).for_host(HOST_UNIT)
+    for_host(
+        change::substitute(sum, list, patterns, coefficients, res),
+        WIDE_UNIT,
+    )
 }
 
 // For the estimate the number is refusal × 65,536 + place.
@@ -76,11 +81,14 @@ pub fn reeveboom_estimate(sum: &[u8], readings: &[u8], tolerances: &[u8], answer
     ensures { (result, answer.new)
         ≡ hosted narrow_unit (router.estimate sum.now readings.now tolerances.now answer.old) }
 {
-    router::estimate(sum, readings, tolerances, answer).for_host(ESTIMATE_UNIT)
+    for_host(
+        router::estimate(sum, readings, tolerances, answer),
+        NARROW_UNIT,
+    )
 }
 
 pub fn reeveboom_write(sum: &[u8], text: &mut [u8]) -> u64
     ensures { (result, text.new) ≡ hosted wide_unit (write_text sum.now text.old) }
 {
-    spelling::write_text(sum, text).for_host(HOST_UNIT)
+    for_host(spelling::write_text(sum, text), WIDE_UNIT)
 }

@@ -13,7 +13,7 @@ use Rattle.text.specs.Limits.{longest_text}
 use Rattle.text.specs.Text.{judge_text, text_sum}
 use Rattle.text.proofs.Byte.{decide}
 use Rattle.listing.specs.Listing.{without_newline, most_input, list}
-use Rattle.listing.proofs.Newline.{front}
+use Rattle.listing.proofs.Newline.{one-longer}
 
 too_long : (text : List ℕ) → longest_text < length text → text_sum text ≡ fails TEXT longest_text
 unfolding text_sum judge_text holding and_then
@@ -25,8 +25,8 @@ sum-enough input =
     (λ e. ap (λ l. text_sum (without_newline l)) (take_all most_input input (leb-true (length input) most_input e)))
     (λ e. let long = leb-false (length input) most_input e in
     let cut = length-take-le most_input input (omega arith) in
-    too_long (without_newline (take most_input input)) (omega (arith, cut, (front (take most_input input)).most))
-    ∙ sym (too_long (without_newline input) (omega (arith, (front input).most))))
+    too_long (without_newline (take most_input input)) (omega (arith, cut, one-longer (take most_input input)))
+    ∙ sym (too_long (without_newline input) (omega (arith, one-longer input))))
 
 pub input-enough : (input area : List ℕ) → list (take most_input input) area ≡ list input area
 unfolding list

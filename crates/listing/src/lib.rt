@@ -1,19 +1,18 @@
 // What the program `terms` prints of a typed formula: the terms of its sum, or a refusal.
 // Begin with specs/Listing.antt, then with `list`.
+// What is written stays two slices, as C lends it: a struct of `&mut` slices would have to say in each contract where they point.
 #![tactic(auto)]
 
 ghost use Rattle.std.specs.Prelude.{◌≡◌, ◌≤◌, length};
-ghost use Rattle.algebra.specs.Limits.{variables};
+ghost use Rattle.algebra.specs.Limits.{variables, work_places};
 ghost use Rattle.answers.specs.Answers.{told, outcome};
 ghost use Rattle.answers.specs.Areas.{written};
-ghost use Rattle.algebra.specs.Sum.{Sum};
 ghost use Rattle.text.specs.Text.{text_sum};
-ghost use Rattle.listing.specs.Lines.{most_lines, sum_lines};
-ghost use Rattle.listing.specs.Inside.Bytes.{Packs, Packed};
-ghost use Rattle.formula.specs.Simplify.{table_sum};
+ghost use Rattle.listing.specs.Lines.{most_lines};
+ghost use Rattle.listing.specs.Inside.Forming.{Forms};
 ghost use Rattle.listing.specs.Listing.{listed, without_newline, most_input, list};
 
-use algebra::{MOST_TERMS, Pattern, WORK_PLACES};
+use algebra::{MOST_TERMS, Pattern, Terms, WORK_PLACES};
 use answers::{Answer, Refusal};
 
 mod lines;
@@ -31,67 +30,31 @@ pub fn most_input() -> usize
     MOST_INPUT
 }
 
-// Each of these three answers how many bytes it wrote.
-
-// The lines of a sum that is packed in these bytes.
-fn list_packed(bytes: &[u8], area: &mut [u8]) -> usize
-    requires packed { Packed bytes.now }
-    requires variables_in_bounds { most_lines variables ≤ length area.old }
-    ensures value { (s : Sum) → Packs bytes.now s → result ≡ length (sum_lines s) }
-    ensures area_after { (s : Sum) → Packs bytes.now s → area.new ≡ written (sum_lines s) area.old }
+// The terms of a typed formula's sum, to the first places of two areas. It answers how many they are.
+fn form(text: &[u8], patterns: &mut [u64], coefficients: &mut [i64]) -> Answer
+    requires patterns_room { work_places ≤ length patterns.old }
+    requires coefficients_room { work_places ≤ length coefficients.old }
+    ensures { Forms (text_sum text.now) result patterns.new coefficients.new }
 {
-    let mut patterns = [0u64; MOST_TERMS];
-    let mut coefficients = [0i64; MOST_TERMS];
-    let answer = packed::unpack(bytes, &mut patterns, &mut coefficients);
-    match answer {
-        // It never comes to this.
-        Answer::Refused(_, _) => 0,
-        Answer::Done(count) => lines::write_sum(area, &patterns, &coefficients, count),
-    }
-}
-
-// The lines of a table's formula.
-fn list_table(table: &[i64], area: &mut [u8]) -> usize
-    requires { most_lines variables ≤ length area.old }
-    ensures value { result ≡ length (listed (table_sum table.now)) }
-    ensures area_after { area.new ≡ written (listed (table_sum table.now)) area.old }
-{
-    let mut patterns = [0u64; WORK_PLACES];
-    let mut coefficients = [0i64; WORK_PLACES];
+    let mut table = [0i64; text::TABLE_PLACES];
+    let nodes = text::read_formula(text, &mut table)?;
     let mut bytes = [0u8; packed::MOST_BYTES];
-    let answer = formula::simplify(table, &mut patterns, &mut coefficients, &mut bytes);
-    match answer {
-        Answer::Refused(refusal, place) => lines::write_refusal(area, refusal.number(), place),
-        Answer::Done(length) => list_packed(&bytes[0..length], area),
-    }
+    let length = formula::simplify(&table[..3 * nodes], patterns, coefficients, &mut bytes)?;
+    packed::unpack(&bytes[..length], patterns, coefficients)
 }
 
-// The lines of a typed formula.
+// The lines of a typed formula. It answers how many bytes they are.
 fn list_text(text: &[u8], area: &mut [u8]) -> usize
     requires { most_lines variables ≤ length area.old }
     ensures value { result ≡ length (listed (text_sum text.now)) }
     ensures area_after { area.new ≡ written (listed (text_sum text.now)) area.old }
 {
-    let mut table = [0i64; text::TABLE_PLACES];
-    let answer = text::read_formula(text, &mut table);
-    match answer {
-        Answer::Refused(refusal, place) => lines::write_refusal(area, refusal.number(), place),
-        Answer::Done(nodes) => list_table(&table[0..3 * nodes], area),
+    let mut patterns = [0u64; WORK_PLACES];
+    let mut coefficients = [0i64; WORK_PLACES];
+    match form(text, &mut patterns, &mut coefficients) {
+        Ok(count) => lines::write_sum(area, Terms::first(count, &patterns, &coefficients)),
+        Err(refused) => lines::write_refusal(area, refused),
     }
-}
-
-// How long the input is without one newline at its end.
-fn end_of(input: &[u8]) -> usize
-    ensures { result ≡ length (without_newline input.now) }
-{
-    let length = input.len();
-    if length == 0 {
-        return 0;
-    }
-    if input[length - 1] == b'\n' {
-        return length - 1;
-    }
-    length
 }
 
 // Lists the terms of a typed formula, or why it is refused.
@@ -99,8 +62,8 @@ pub fn list(input: &[u8], area: &mut [u8]) -> Answer
     ensures { outcome (told result) area.new ≡ list input.now area.old }
 {
     if area.len() < MOST_LINES {
-        return Answer::Refused(Refusal::Room, 0);
+        return Err(Refusal::Room.at(0));
     }
-    let end = end_of(input);
-    Answer::Done(list_text(&input[0..end], area))
+    let text = input.strip_suffix(b"\n").unwrap_or(input);
+    Ok(list_text(text, area))
 }

@@ -1,16 +1,20 @@
 -- The formal degree and the formal weight, kind by kind, as the code computes them.
-use mathlib.Core.Path.{◌≡◌, sym, ap, subst}
+use mathlib.Core.Path.{◌≡◌, sym, subst}
 use mathlib.Core.Bool.{◌&&◌}
 use mathlib.Core.List.{List}
 use Prim.Native.Nat.{ℕ, ◌≤◌, ◌<◌}
 use lib.Dec.{T, ltb, leb, ltb→lt, leb→le}
+use lib.IntN.{pos}
+use lib.ListN.{length, get_or, length-map, get_or-map}
+use native.Mathlib.Omega.{arith}
 use Rattle.algebra.specs.Limits.{variables, largest_degree}
 use lib.Ieee.Fits.{and_l, and_r}
 use Rattle.nodes.specs.Node.{is_node}
-use Rattle.nodes.specs.Inside.Code.{kind_of}
-use Rattle.nodes.specs.Formal.{formal_degree, formal_weight}
+use Rattle.nodes.specs.Inside.Children.{EachAtMost}
+use Rattle.nodes.specs.Inside.Code.{kind_of, formal_degrees, formal_weights}
 use Rattle.nodes.specs.declared.Kind.{Kind}
-use Rattle.nodes.specs.declared.Kind.TheVariants.{Variable, Sum, Product, Power}
+use Rattle.nodes.specs.declared.Kind.TheVariants.{Integer, Variable, Sum, Product, Power}
+use Rattle.nodes.specs.declared.Node.{Node}
 
 -- ---- The children of node n are before it.
 
@@ -38,10 +42,17 @@ module _ (n : ℕ) {k : Kind} (node : T (is_node n (kind_of k))) where
   pub power-child : {a e : ℕ} → k ≡ Power a e → (a < n) × (e ≤ largest_degree)
   power-child {a} {e} p = base-child n a e (at-kind p)
 
--- ---- What the code computes is the definition at the kind that was matched.
+-- ---- What the code reads of the nodes before.
 
-pub degree-at : (ds : List ℕ) {k other : Kind} → k ≡ other → formal_degree ds (kind_of other) ≡ formal_degree ds (kind_of k)
-degree-at ds e = ap (λ x. formal_degree ds (kind_of x)) (sym e)
+-- what stands for a node where there is none
+abbrev none : Node
+none = record { degree = 0; weight = 0; kind = Integer (pos 0) }
 
-pub weight-at : (ws : List ℕ) {k other : Kind} → k ≡ other → formal_weight ws (kind_of other) ≡ formal_weight ws (kind_of k)
-weight-at ws e = ap (λ x. formal_weight ws (kind_of x)) (sym e)
+pub degree_there : (before : List Node) (a : ℕ) → (get_or before a none).degree ≡ get_or (formal_degrees before) a 0
+degree_there before a = sym (get_or-map (λ (n : Node). n.degree) before a none)
+
+pub low_degree : (before : List Node) → EachAtMost largest_degree (formal_degrees before) → (a : ℕ) → a < length before → (get_or before a none).degree ≤ largest_degree
+low_degree before low a h = rw (degree_there before a) (low a (omega (arith, length-map before (λ (n : Node). n.degree))))
+
+pub weight_there : (before : List Node) (a : ℕ) → (get_or before a none).weight ≡ get_or (formal_weights before) a 0
+weight_there before a = sym (get_or-map (λ (n : Node). n.weight) before a none)

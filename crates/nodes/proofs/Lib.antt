@@ -1,5 +1,4 @@
 -- The laws that other crates cite; the proofs of the functions stand beside them, a folder each.
-pub mod Reading
 pub mod Formally
 pub mod Spelled
 pub mod Working

@@ -19,8 +19,7 @@ use Rattle.sums.specs.Part.{part}
 use Rattle.nodes.specs.Inside.Work.{FormedAt}
 use Rattle.nodes.specs.declared.Kind as code
 use Rattle.nodes.specs.declared.Kind.TheVariants.{Integer, Variable, Sum, Product, Power}
-use Rattle.nodes.specs.declared.Found as answer
-use Rattle.nodes.specs.declared.Found.TheVariants.{Good, Fault}
+use Rattle.std.specs.Prelude.{Option, Some, None}
 use Rattle.nodes.specs.declared.Node.{Node}
 use Rattle.nodes.proofs.read_node.Reads as read-node
 use Rattle.nodes.proofs.make_node.Reads as make-node
@@ -43,16 +42,16 @@ code-of (Sum a b) = refl
 code-of (Product a b) = refl
 code-of (Power a e) = refl
 
-answer_of : Judged Kind → answer.Found
-answer_of (good k) = Good (code_of k)
-answer_of (fails refusal place) = Fault
+answer_of : Judged Kind → Option code.Kind
+answer_of (good k) = Some (code_of k)
+answer_of (fails refusal place) = None
 
-answer-of : (i : ℕ) (f : answer.Found) → answer_of (found_of i f) ≡ f
+answer-of : (i : ℕ) (f : Option code.Kind) → answer_of (found_of i f) ≡ f
 unfolding answer_of
-answer-of i (Good k) = ap (λ (x : code.Kind). Good x) (code-of k)
-answer-of i Fault = refl
+answer-of i (Some k) = ap (λ (x : code.Kind). Some x) (code-of k)
+answer-of i None = refl
 
-pub found-one : (i : ℕ) (f g : answer.Found) → found_of i f ≡ found_of i g → f ≡ g
+pub found-one : (i : ℕ) (f g : Option code.Kind) → found_of i f ≡ found_of i g → f ≡ g
 found-one i f g e = sym (answer-of i f) ∙ ap answer_of e ∙ answer-of i g
 
 -- ---- An area is what stands before a part, the part, and what stands after it.

@@ -5,36 +5,29 @@ use Prim.Native.Nat.{ℕ, zero, suc, ◌+◌, ◌*◌, ◌^◌, ◌≤◌, ◌<�
 use native.Mathlib.Omega.{arith}
 use native.Mathlib.Numerals.{add-one}
 use native.Mathlib.Decide.{dec_lt}
-use lib.Dec.{T}
 use lib.IntN.{ℤ}
 use lib.ListN.{length, get_or, take, length-append, get_or-append, get_or-map}
-use lib.Seq.{get_or_at, length-take-le}
+use lib.Seq.{get_or_at}
 use borrow.Rule.Slice.PartMut.{mid_of, put_mid}
 use Rattle.algebra.specs.Limits.{variables, largest_degree, most_terms, largest_weight}
-use Rattle.algebra.specs.Sum.{Sum, no_zero, degree_of, weight}
+use Rattle.algebra.specs.Sum.{Sum, degree_of, weight}
 use Rattle.algebra.specs.Arithmetic as arithmetic
-use Rattle.algebra.specs.Held.{first_terms}
+use Rattle.algebra.specs.Word.{terms}
 use Rattle.algebra.proofs.Sums.Ordered.{parts}
-use Rattle.answers.specs.Areas.{written}
-use Rattle.sums.specs.Asked.{Room}
+use Rattle.sums.specs.Held.{HeldSum}
+use Rattle.sums.specs.Asked.{Addends, Factors, Base}
 use Rattle.sums.specs.Formed.{Formed, Formed.formed, within, formed_into, sum_of, product_of, power_of}
 use Rattle.nodes.specs.declared.Kind as code
-use Rattle.nodes.specs.Node.{Kind.integer, Kind.variable, Kind.sum, Kind.product, Kind.power}
+use Rattle.nodes.specs.Node.{Kind, Kind.integer, Kind.variable, Kind.sum, Kind.product, Kind.power}
 use Rattle.nodes.specs.Inside.Code.{kind_of}
 use Rattle.nodes.specs.Formal.{formal_degree, formal_weight, node_spread, node_sum}
-use Rattle.sums.proofs.Holding.{terms-many, holdable}
-use Rattle.sums.proofs.Fronts.{Placed, placed-written, placed-is}
 use Rattle.sums.specs.Part.{part}
-use Rattle.nodes.specs.Inside.Work.{sum_at, sums_at, Keeps, node_formed, FormedAt, Ready}
-use Rattle.sums.proofs.Parts.{span, lent, lent_length, part_length, part-put, before-put, after-put}
+use Rattle.nodes.specs.Inside.Work.{sum_at, sums_at, node_formed, FormedAt, Ready}
+use Rattle.nodes.proofs.Formally.{two-children, base-child}
+use Rattle.sums.proofs.Parts.{span, lent, part_length, part-put, before-put, after-put}
 
--- ---- Operands.
+-- ---- The sums that are kept.
 
--- a slice that was lent for a part, copied
-pub copied : {A : Type 0} (i n : ℕ) (xs ys : List A) {zs : List A} → zs ≡ written (take n (mid_of (most_terms * i) (span i) xs)) ys → zs ≡ written (take n (part i xs)) ys
-copied i n xs ys h = h ∙ ap (λ l. written (take n l) ys) (lent i xs)
-
--- the sums that are kept
 module _ (ns : List ℕ) (ws : List ℕ) (cs : List ℤ) where
   pub sums-length : (i : ℕ) → length (sums_at i ns ws cs) ≡ i
   unfolding sums_at
@@ -75,22 +68,7 @@ module _ (i : ℕ) (f : Formed Sum) (ws : List ℕ) (cs : List ℤ) (room-w : mo
         coefficients_after = after-put i cs room-c ds as_many;
       }
 
--- it has room for any sum
-pub lent-room : (i : ℕ) (ws : List ℕ) (cs : List ℤ) → most_terms * suc i ≤ length ws → most_terms * suc i ≤ length cs → Room (mid_of (most_terms * i) (span i) ws) (mid_of (most_terms * i) (span i) cs)
-lent-room i ws cs room-w room-c = record { words = lent_length i ws room-w; coefficients = lent_length i cs room-c }
-
 -- ---- Earlier nodes as operands.
-
--- the terms of node a, copied to two arrays
-pub operand : {i : ℕ} {ns : List ℕ} {ws : List ℕ} {cs : List ℤ} → Keeps i ns ws cs → (a : ℕ) → a < i → most_terms * i + most_terms ≤ length ws → (sp₀ : List ℕ) (sc₀ : List ℤ)
-    {sp : List ℕ} {sc : List ℤ} {count : ℕ} → count ≡ get_or ns a 0 → sp ≡ written (take (get_or ns a 0) (part a ws)) sp₀ → sc ≡ written (take (get_or ns a 0) (part a cs)) sc₀
-    → Placed (sum_at ns ws cs a) count sp sc
-operand {i} {ns} {ws} {cs} k a before room sp₀ sc₀ is words coefficients =
-    let n = get_or ns a 0 in
-    let held = (k.holds a before).held in
-    let many : length (take n (part a ws)) ≡ n = length-take-le n (part a ws) (omega (arith, part_length a ws (omega arith), k.few a before)) in
-    placed-written sp₀ sc₀ (words ∙ ap (λ l. written l sp₀) held.words_are) (coefficients ∙ ap (λ l. written l sc₀) held.coefficients_are) (terms-many held ∙ many ∙ sym is)
-    (holdable held)
 
 -- two nodes of a list as addends, and as factors
 module _ (ss : List Sum) (a b : ℕ) {s t : Sum} (is : s ≡ get_or ss a []) (is' : t ≡ get_or ss b []) where
@@ -131,15 +109,81 @@ module _ (ss : List Sum) (a e : ℕ) {s : Sum} (is : s ≡ get_or ss a []) where
   unfolding power_of node_spread node_sum
   base-formed = ap (λ t. power_of t e) is
 
--- the slices of an operand
-pub operand-is : {i : ℕ} {ns : List ℕ} {ws : List ℕ} {cs : List ℤ} → Keeps i ns ws cs → (a : ℕ) → a < i → {sp : List ℕ} {sc : List ℤ} {n : ℕ} → Placed (sum_at ns ws cs a) n sp sc
-    → first_terms n sp sc ≡ get_or (sums_at i ns ws cs) a []
-operand-is {i} {ns} {ws} {cs} k a before f = placed-is f ∙ sym (sum-there ns ws cs i a before)
+-- the terms of node a, in two slices
+module _ {i : ℕ} {ns : List ℕ} {ws : List ℕ} {cs : List ℤ} {k : Kind} (r : Ready i ns ws cs k) {a : ℕ} (before : a < i) {sp : List ℕ} {sc : List ℤ}
+    (words : sp ≡ take (get_or ns a 0) (part a ws)) (coefficients : sc ≡ take (get_or ns a 0) (part a cs)) where
+  operand_held : HeldSum sp sc
+  operand_held = rw (words, coefficients) (r.keeps.holds a before)
 
--- and it has no zeros
-pub operand-full : {i : ℕ} {ns : List ℕ} {ws : List ℕ} {cs : List ℤ} → Keeps i ns ws cs → (a : ℕ) → a < i → {sp : List ℕ} {sc : List ℤ} {n : ℕ} → Placed (sum_at ns ws cs a) n sp sc
-    → T (no_zero (first_terms n sp sc))
-operand-full {i} {ns} {ws} {cs} k a before f = rw (placed-is f) (parts variables (sum_at ns ws cs a) (k.holds a before).accepted.is_ordered).full
+  operand_is : terms sp sc ≡ get_or (sums_at i ns ws cs) a []
+  operand_is = ap₂ terms words coefficients ∙ sym (sum-there ns ws cs i a before)
+
+-- as the base of a power
+module _ {i a e : ℕ} {ns : List ℕ} {ws : List ℕ} {cs : List ℤ} (r : Ready i ns ws cs (power a e)) {sp : List ℕ} {sc : List ℤ}
+    (words : sp ≡ take (get_or ns a 0) (part a ws)) (coefficients : sc ≡ take (get_or ns a 0) (part a cs)) where
+  there : a < i
+  there = (base-child i a e r.node_is).0
+
+  is : terms sp sc ≡ get_or (sums_at i ns ws cs) a []
+  is = operand_is r there words coefficients
+
+  pub base_asked : Base sp sc e
+  base_asked =
+      let h = operand_held r there words coefficients in
+      record {
+        held = h.held;
+        full = (parts variables (terms sp sc) h.accepted.is_ordered).full;
+        low = base-low (sums_at i ns ws cs) a e is r.low;
+        light = base-light (sums_at i ns ws cs) a e is r.light;
+      }
+
+  pub base_formed : power_of (terms sp sc) e ≡ node_formed (sums_at i ns ws cs) (power a e)
+  base_formed = base-formed (sums_at i ns ws cs) a e is
+
+-- two of them as addends, and as factors
+module _ {i a b : ℕ} {ns : List ℕ} {ws : List ℕ} {cs : List ℤ} {sp tp : List ℕ} {sc tc : List ℤ}
+    (words : sp ≡ take (get_or ns a 0) (part a ws)) (coefficients : sc ≡ take (get_or ns a 0) (part a cs))
+    (words' : tp ≡ take (get_or ns b 0) (part b ws)) (coefficients' : tc ≡ take (get_or ns b 0) (part b cs)) where
+  module _ (r : Ready i ns ws cs (sum a b)) where
+    addends : (a < i) × (b < i)
+    addends = two-children i a b r.node_is
+
+    addend_is : terms sp sc ≡ get_or (sums_at i ns ws cs) a []
+    addend_is = operand_is r addends.0 words coefficients
+
+    other_addend_is : terms tp tc ≡ get_or (sums_at i ns ws cs) b []
+    other_addend_is = operand_is r addends.1 words' coefficients'
+
+    pub addends_asked : Addends sp sc tp tc
+    addends_asked = record {
+      first = operand_held r addends.0 words coefficients;
+      second = operand_held r addends.1 words' coefficients';
+      light = addends-light (sums_at i ns ws cs) a b addend_is other_addend_is r.light;
+    }
+
+    pub addends_formed : sum_of (terms sp sc) (terms tp tc) ≡ node_formed (sums_at i ns ws cs) (sum a b)
+    addends_formed = addends-formed (sums_at i ns ws cs) a b addend_is other_addend_is
+
+  module _ (r : Ready i ns ws cs (product a b)) where
+    factors : (a < i) × (b < i)
+    factors = two-children i a b r.node_is
+
+    factor_is : terms sp sc ≡ get_or (sums_at i ns ws cs) a []
+    factor_is = operand_is r factors.0 words coefficients
+
+    other_factor_is : terms tp tc ≡ get_or (sums_at i ns ws cs) b []
+    other_factor_is = operand_is r factors.1 words' coefficients'
+
+    pub factors_asked : Factors sp sc tp tc
+    factors_asked = record {
+      first = (operand_held r factors.0 words coefficients).held;
+      second = (operand_held r factors.1 words' coefficients').held;
+      low = factors-low (sums_at i ns ws cs) a b factor_is other_factor_is r.low;
+      light = factors-light (sums_at i ns ws cs) a b factor_is other_factor_is r.light;
+    }
+
+    pub factors_formed : product_of (terms sp sc) (terms tp tc) ≡ node_formed (sums_at i ns ws cs) (product a b)
+    factors_formed = factors-formed (sums_at i ns ws cs) a b factor_is other_factor_is
 
 -- what was formed, by another name
 pub renamed : {i : ℕ} {f g : Formed Sum} {answer : Formed ℕ} {ws ws' : List ℕ} {cs cs' : List ℤ} → g ≡ f → FormedAt i g answer ws cs ws' cs' → FormedAt i f answer ws cs ws' cs'

@@ -1,14 +1,17 @@
 -- Two's complement, low byte first: to k bytes and back, and from bytes and back.
-use mathlib.Core.Path.{◌≡◌, refl, ap, ◌∙◌}
+use mathlib.Core.Path.{◌≡◌, refl, sym, ap, ap₂, ◌∙◌}
 use mathlib.Core.List.{List, [], ◌∷◌}
 use Prim.Native.Nat.{ℕ, zero, suc, ◌+◌, ◌*◌, ◌-◌, ◌^◌, ◌/◌, ◌%◌, ◌≤◌, ◌<◌}
 use native.Mathlib.Omega.{arith}
-use native.Mathlib.Nat.{pow-suc}
+use native.Mathlib.Nat.{pow-suc, div-div-eq-div-mul}
 use native.Mathlib.Decide.{dec_lt}
 use lib.IntN.{ℤ, pos, negsuc, nat_abs, ◌-ℤ◌}
 use lib.ListN.{length, get_or}
 use borrow.Author.Tests.{lt-ltb, le-ltb}
-use Rattle.numbers.specs.Bytes.{byte_values, plain_number, signed_number, plain_bytes, signed_bytes}
+use mir.Syntax.{w64}
+use mir.Val.{of_z}
+use Rattle.std.specs.Int.{byte_at, bytes_low_first, to_le_bytes}
+use Rattle.numbers.specs.Bytes.{byte_values, whole_bytes, plain_number, signed_number, plain_bytes, signed_bytes}
 
 -- each of them is a byte
 abbrev pub Bytes : List ℕ → Type 0
@@ -21,14 +24,28 @@ unfolding plain_bytes
 plain-length zero n = refl
 plain-length (suc k) n = ap suc (plain-length k (n / byte_values))
 
--- the bytes left after k of `many`: the next one and the rest, or none
-pub plain-next : (many k n : ℕ) → k < many → plain_bytes (many - k) n ≡ n % byte_values ∷ plain_bytes (many - (k + 1)) (n / byte_values)
-unfolding plain_bytes
-plain-next many k n h = let more : many - k ≡ suc (many - (k + 1)) = omega arith in rw more
+-- std's byte i of a number
+pub byte-at : (i n : ℕ) → byte_at i n ≡ n / byte_values ^ i % byte_values
+byte-at zero n = omega arith
+byte-at (suc i) n = refl
 
-pub plain-none : (many k n : ℕ) → many ≤ k → plain_bytes (many - k) n ≡ []
+-- std's bytes, from byte i on, are those of the number without its i lowest bytes
+bytes-from : (i k n : ℕ) → bytes_low_first i k n ≡ plain_bytes k (n / byte_values ^ i)
 unfolding plain_bytes
-plain-none many k n h = let none : many - k ≡ 0 = omega arith in rw none
+bytes-from i zero n = refl
+bytes-from i (suc k) n =
+    let next : n / byte_values ^ suc i ≡ n / byte_values ^ i / byte_values =
+    ap (λ (m : ℕ). n / m) (pow-suc byte_values i) ∙ sym (div-div-eq-div-mul n (byte_values ^ i) byte_values) in
+    ap₂ (λ (b : ℕ) (r : List ℕ). b ∷ r) (byte-at i n) (bytes-from (suc i) k n ∙ ap (plain_bytes k) next)
+
+-- those of a number of 64 bits
+pub whole-bytes : (z : ℤ) → to_le_bytes w64 (of_z w64 z) ≡ signed_bytes whole_bytes z
+unfolding signed_bytes
+whole-bytes (pos n) = let all : n / byte_values ^ 0 ≡ n = omega arith in bytes-from 0 whole_bytes n ∙ ap (plain_bytes whole_bytes) all
+whole-bytes (negsuc m) =
+    let n = byte_values ^ whole_bytes - suc m in
+    let all : n / byte_values ^ 0 ≡ n = omega arith in
+    bytes-from 0 whole_bytes n ∙ ap (plain_bytes whole_bytes) all
 
 plain_size : (k n : ℕ) → byte_values ^ length (plain_bytes k n) ≡ byte_values ^ k
 plain_size k n = ap (λ (i : ℕ). byte_values ^ i) (plain-length k n)

@@ -5,9 +5,11 @@ use Prim.Native.Nat.{ℕ, ◌≤◌}
 use native.Mathlib.Omega.{arith}
 use lib.Dec.{T}
 use Rattle.numbers.specs.Item.{Item, Item.got, Item.stopped, and_then, provided, mapped, renamed, Fault, Fault.cut, Fault.bad}
-use Rattle.numbers.specs.Inside.Read.{item_of}
-use Rattle.numbers.specs.declared.Read.{Read}
-use Rattle.numbers.specs.declared.Read.TheVariants.{Value, Cut, Bad}
+use Rattle.std.specs.Prelude.{Result, Ok, Err, Some}
+use Rattle.std.specs.Result.{result_ok}
+use Rattle.numbers.specs.Inside.Read.{item_of, read_from}
+use Rattle.numbers.specs.declared.Fault as declared
+use Rattle.numbers.specs.declared.Fault.TheVariants.{Cut, Bad}
 
 -- nothing is both
 pub never : {F A : Type 0} {what : F} {place next : ℕ} {a : A} → stopped what place ≡ got a next → ⊥
@@ -207,28 +209,17 @@ alike-shown f both = refl
 
 -- ---- What the code answers.
 
--- an answer that is no value
-abbrev pub NoValue : Read → Type 0
-NoValue r = (v next : ℕ) → r ≡ Value v next → ⊥
-
-no_value : (r : Read) → NoValue r → (v next : ℕ) → item_of r ≡ got v next → ⊥
-no_value (Value x y) k v next e = k x y refl
-no_value (Cut place) k v next e = let z : ◌≡◌ {A = ℕ} 0 1 = cc in omega arith
-no_value (Bad place) k v next e = let z : ◌≡◌ {A = ℕ} 0 1 = cc in omega arith
-
--- an answer that is no value has met the fault of what it answers
-pub stop-met : {A : Type 0} (r : Read) → NoValue r → (h : A → ℕ) (y : Item Fault A) → item_of r ≡ mapped h y → Alike (item_of r) y
+-- a fault that was met is that of what is read
+pub fault-met : {A : Type 0} (f : declared.Fault) (h : A → ℕ) (y : Item Fault A) → item_of (Err f) ≡ mapped h y → Alike (item_of (Err f)) y
 unfolding mapped
-stop-met r k h (got a next) e = absurd (no_value r k (h a) next e)
-stop-met r k h (stopped what place) e = rw e both
+fault-met (Cut place) h (got a next) e = absurd (never e)
+fault-met (Bad place) h (got a next) e = absurd (never e)
+fault-met f h (stopped what place) e = rw e both
 
--- and one that is a value has it from there
-pub answered : {A : Type 0} {v next : ℕ} (r : Read) → r ≡ Value v next → (h : A → ℕ) (y : Item Fault A) → item_of r ≡ mapped h y → From h y v next
-answered r is h y e = came_from h y _ _ (sym e ∙ ap item_of is)
+pub number-fault : (f : declared.Fault) (y : Item Fault ℕ) → item_of (Err f) ≡ y → Alike (item_of (Err f)) y
+number-fault f y e = fault-met f (λ n. n) y (e ∙ sym (mapped-id y))
 
--- the same of an answer that is shown as it was read
-pub number-stopped : (r : Read) → NoValue r → (y : Item Fault ℕ) → item_of r ≡ y → Alike (item_of r) y
-number-stopped r k y e = stop-met r k (λ n. n) y (e ∙ sym (mapped-id y))
-
-pub number-answered : {v next : ℕ} {y : Item Fault ℕ} (r : Read) → r ≡ Value v next → item_of r ≡ y → y ≡ got v next
-number-answered r is e = sym e ∙ ap item_of is
+-- what was read, where the answer is shown without its fault
+pub ok-read : {v next : ℕ} {y : Item Fault ℕ} (r : Result ℕ declared.Fault) → Some v ≡ result_ok r → read_from r next ≡ y → y ≡ got v next
+ok-read {v} {next} {y} (Ok u) is e = let same : u ≡ v = cc in sym e ∙ ap (λ (n : ℕ). got n next) same
+ok-read (Err f) is e = let z : ◌≡◌ {A = ℕ} 0 1 = cc in absurd (omega arith)

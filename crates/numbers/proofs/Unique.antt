@@ -4,9 +4,9 @@ use Prim.Native.Nat.{ℕ}
 use Rattle.answers.proofs.Outcomes.{same}
 use Rattle.answers.specs.Promised.{One, OneLent}
 use Rattle.numbers.specs.Item.{Item, Item.got, Item.stopped, Fault, Fault.cut, Fault.bad}
-use Rattle.numbers.specs.Inside.Read.{item_of}
-use Rattle.numbers.specs.declared.Read.{Read}
-use Rattle.numbers.specs.declared.Read.TheVariants.{Value, Cut, Bad}
+use Rattle.std.specs.Prelude.{Ok, Err}
+use Rattle.numbers.specs.Inside.Read.{Reading, item_of}
+use Rattle.numbers.specs.declared.Fault.TheVariants.{Cut, Bad}
 use Rattle.numbers.proofs.read_number.Reads as read_number
 use Rattle.numbers.proofs.write_number.Reads as write-number
 use Rattle.numbers.proofs.code.Reads as code
@@ -19,18 +19,18 @@ use Rattle.numbers.proofs.decimal.write_signed.Reads as write-signed
 
 -- ---- Different answers say different things.
 
-answer_of : Item Fault ℕ → Read
-answer_of (got v next) = Value v next
-answer_of (stopped cut place) = Cut place
-answer_of (stopped bad place) = Bad place
+answer_of : Item Fault ℕ → Reading
+answer_of (got v next) = Ok (v, next)
+answer_of (stopped cut place) = Err (Cut place)
+answer_of (stopped bad place) = Err (Bad place)
 
-answer-of : (r : Read) → answer_of (item_of r) ≡ r
+answer-of : (r : Reading) → answer_of (item_of r) ≡ r
 unfolding answer_of
-answer-of (Value v next) = refl
-answer-of (Cut place) = refl
-answer-of (Bad place) = refl
+answer-of (Ok (v, next)) = refl
+answer-of (Err (Cut place)) = refl
+answer-of (Err (Bad place)) = refl
 
-pub item-one : (r r' : Read) → item_of r ≡ item_of r' → r ≡ r'
+pub item-one : (r r' : Reading) → item_of r ≡ item_of r' → r ≡ r'
 item-one r r' h = sym (answer-of r) ∙ ap answer_of h ∙ answer-of r'
 
 -- ---- The functions.
@@ -53,7 +53,7 @@ decode-one k a r r' e e' h h' = same h h'
 pub absolute-one : One absolute.Learnt
 absolute-one k a r r' e e' h h' = same h h'
 
--- Refused when tried: the first byte again and again; answers the place where it began.
+-- Refused when tried: writes zeros; answers the place where it began.
 pub write-bytes-one : OneLent write_bytes.Learnt (λ k e. e.0.now)
 write-bytes-one k a r r' e e' h h' = (same h.0 h'.0, same h.1 h'.1)
 

@@ -1,10 +1,11 @@
 -- What a loop keeps that writes bytes to an area, run after run: the bytes left, written from here on, complete what was to be written.
-use mathlib.Core.Path.{◌≡◌, refl, sym, ◌∙◌, ap, subst}
-use mathlib.Core.List.{List, [], ◌∷◌, ◌++◌}
+use mathlib.Core.Path.{◌≡◌, refl, sym, ◌∙◌, ap, ap₂, subst}
+use mathlib.Core.List.{List, [], ◌∷◌, ◌++◌, append_assoc}
 use Prim.Native.Nat.{ℕ, zero, suc, ◌+◌, ◌≤◌, ◌<◌}
 use native.Mathlib.Omega.{arith}
-use lib.ListN.{length, set, drop, length-append}
-use lib.Seq.{sets, length-sets, sets-eq}
+use lib.ListN.{length, set, take, drop, length-append}
+use lib.Seq.{sets, length-sets, sets-eq, drop-drop}
+use borrow.Rule.Slice.PartMut.{put_mid}
 use Rattle.answers.specs.Areas.{written}
 
 -- two runs one after the other are one run
@@ -13,6 +14,13 @@ sets-append l i [] b = ap (λ (k : ℕ). sets l k b) (omega arith)
 sets-append l i (x ∷ a) b =
     let e : i + suc (length a) ≡ suc i + length a = omega arith in
     ap (λ (k : ℕ). sets (sets (set l i x) (suc i) a) k b) e ∙ sets-append (set l i x) (suc i) a b
+
+-- a part of an area that is written at once
+pub part-sets : {A : Type 0} (at k : ℕ) (area part vs : List A) → part ≡ vs → k ≡ length vs → at + length vs ≤ length area → put_mid at k area part ≡ sets area at vs
+part-sets at k area part vs is long room =
+    ap₂ (λ l r. take at area ++ (l ++ r)) is (drop-drop k at area ∙ ap (λ (n : ℕ). drop (at + n) area) long)
+    ∙ sym (append_assoc (take at area) vs _)
+    ∙ sym (sets-eq vs area at room)
 
 pub record Writing (area₀ : List ℕ) (at : ℕ) (all area : List ℕ) (place : ℕ) (left : List ℕ) : Type 0 where
   pub stored : sets area₀ at all ≡ sets area place left

@@ -1,4 +1,5 @@
 // Numbers in decimal digits.
+// Area and place are two parameters: a struct of both would have to say in each contract which area it holds.
 ghost use Rattle.std.specs.Prelude.{◌≡◌, ◌+◌, ◌≤◌, ◌<◌, length};
 ghost use Rattle.std.proofs.lemmas.List.Edits.{sets};
 ghost use Rattle.numbers.specs.Decimal.{decimal, signed_decimal};

@@ -6,6 +6,7 @@ use native.Mathlib.Omega.{arith}
 use lib.IntN.{ℤ}
 use lib.ListN.{length, get_or, take, drop, set, length-set, length-append, length-drop, take-append-drop}
 use lib.Seq.{drop-drop, get_or-drop, length-take-le}
+use Rattle.std.specs.Prelude.{Some, None}
 use Rattle.algebra.specs.Limits.{variables}
 use Rattle.algebra.specs.Sum.{Sum, term}
 use Rattle.algebra.specs.Word.{field_size, word, exponents, terms_by, terms, Valid}
@@ -142,20 +143,20 @@ module _ {s : List ℕ} {at count : ℕ} {words₀ : List ℕ} {coefficients₀ 
   coefficients_kept =
       written-kept c.cs coefficients₀ count c.coefficients_are (omega (arith, c.coefficients_many, c.inside)) (omega (arith, c.same_coefficients, c.coefficients_room))
 
-  -- 0 is answered
-  pub stops : Copies count s at 0 words₀ coefficients₀ words coefficients
+  -- the terms are not all like that
+  pub stops : Copies count s at None words₀ coefficients₀ words coefficients
   stops = record {
     words_kept = words_kept;
     coefficients_kept = coefficients_kept;
-    are = λ after good. absurd (omega (arith, after));
+    are = λ end is good. let z : ◌≡◌ {A = ℕ} 0 1 = cc in absurd (omega arith);
   }
 
-  pub ended : count ≤ k → Copies count s at place words₀ coefficients₀ words coefficients
+  pub ended : count ≤ k → Copies count s at (Some place) words₀ coefficients₀ words coefficients
   unfolding terms
   ended h = record {
     words_kept = words_kept;
     coefficients_kept = coefficients_kept;
-    are = λ after good.
+    are = λ end is good.
         let full : k ≡ count = omega (arith, c.inside) in
         let words-first = (written-front c.ws words₀ c.words_are (c.words_many ∙ full)).0 in
         let coefficients-first = (written-front c.cs coefficients₀ c.coefficients_are (c.coefficients_many ∙ full)).0 in
@@ -164,5 +165,6 @@ module _ {s : List ℕ} {at count : ℕ} {words₀ : List ℕ} {coefficients₀ 
         let there = c.stands all.0 in
         let many : length sum ≡ count = held-length exponents c.ws c.cs (c.words_many ∙ sym c.coefficients_many) ∙ c.words_many ∙ full in
         let read = terms-read s variables [] sum at (drop place s) all.1 there.bytes_are in
-        rw (words-first, coefficients-first) (rw many at read ∙ ap (got sum) (sym there.ends));
+        let same : place ≡ end = cc in
+        rw (words-first, coefficients-first) (rw many at read ∙ ap (got sum) (sym there.ends ∙ same));
   }

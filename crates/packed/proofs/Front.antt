@@ -15,11 +15,19 @@ use Rattle.algebra.specs.Held.{words_of, coefficients_of, first_terms}
 abbrev pub at_place : List ℕ → List ℤ → ℕ → Term
 at_place ws cs k = term (get_or cs k (pos 0)) (exponents (get_or ws k 0))
 
--- what is left of the first values of a list
-pub first_next : {A : Type 0} (d : A) (count : ℕ) (l : List A) → count ≤ length l → (k : ℕ) → k < count → drop k (take count l) ≡ get_or l k d ∷ drop (k + 1) (take count l)
-first_next d count l room k h =
-    drop-cons (take count l) k d (rw (length-take-le count l room) h)
-    ∙ ap₂ ◌∷◌ (get_or-take count l k d h) (ap (λ (i : ℕ). drop i (take count l)) (sym (add-one k)))
+-- the terms of two lists
+module _ (ws : List ℕ) (cs : List ℤ) (as_many : length cs ≡ length ws) where
+  pub terms-length : length (terms ws cs) ≡ length ws
+  unfolding terms
+  terms-length = held-length exponents ws cs (sym as_many)
+
+  pub terms-next : (k : ℕ) → k < length ws → drop k (terms ws cs) ≡ at_place ws cs k ∷ drop (k + 1) (terms ws cs)
+  unfolding terms
+  terms-next k h =
+      let all = terms ws cs in
+      let is : get_or all k (at_place ws cs k) ≡ at_place ws cs k = held_at exponents k ws cs (at_place ws cs k) h (rw as_many h) in
+      drop-cons all k (at_place ws cs k) (rw terms-length h)
+      ∙ ap₂ (λ (t : Term) (s : Sum). t ∷ s) is (ap (λ (i : ℕ). drop i all) (sym (add-one k)))
 
 -- the word at a place is valid
 pub valid-at : (count : ℕ) (ws : List ℕ) → count ≤ length ws → EachValid (take count ws) → (k : ℕ) → k < count → Valid (get_or ws k 0)

@@ -5,8 +5,9 @@ use Prim.Native.Nat.{ℕ, suc, ◌+◌, ◌-◌, ◌^◌, ◌≤◌, ◌<◌, Or
 use native.Mathlib.Omega.{arith}
 use lib.Dec.{T, le→leb}
 use lib.IntN.{ℤ, pos, nat_abs}
-use lib.ListN.{length, get_or, take, drop, drop_of_length-le}
-use lib.Seq.{length-take-le}
+use lib.ListN.{length, get_or, drop, drop_of_length-le}
+use lib.Seq.{drop-cons}
+use native.Mathlib.Numerals.{add-one}
 use Rattle.algebra.specs.Limits.{variables, largest_degree, largest_weight}
 use Rattle.algebra.specs.Pattern.{degree, then_by}
 use Rattle.algebra.specs.Sum.{Term, term, Sum, is_before, weight}
@@ -19,7 +20,6 @@ use Rattle.algebra.proofs.Patterns.Word.{exponents-length, test-valid, low-decid
 use Rattle.packed.specs.Judge.{follows}
 use Rattle.packed.specs.Pack.{is_good, good_terms}
 use Rattle.packed.proofs.Good.{Fit, weighs-some, weighs-light, weighs_is, fit-good, good-fit}
-use Rattle.packed.proofs.Front.{first_next}
 
 -- ---- Steps of the definition.
 
@@ -92,46 +92,42 @@ latest-some before c v d is e = record {
 
 -- ---- The loop.
 
-pub record Judging (ws : List ℕ) (cs : List ℤ) (count total d last k : ℕ) : Type 0 where
+pub record Judging (ws : List ℕ) (cs : List ℤ) (total d last k : ℕ) : Type 0 where
   -- the terms so far, the last of them first
   pub before : Sum
-  pub left : good_terms [] (take count ws) (take count cs) ≡ k + good_terms before (drop k (take count ws)) (drop k (take count cs))
+  pub left : good_terms [] ws cs ≡ k + good_terms before (drop k ws) (drop k cs)
   pub weighed : total ≡ weight before
   pub light : total ≤ largest_weight
   pub latest : Latest before d last
-  pub inside : k ≤ count
-  pub words : count ≤ length ws
-  pub coefficients : count ≤ length cs
+  pub inside : k ≤ length ws
+  pub as_many : length cs ≡ length ws
 
-pub start : (ws : List ℕ) (cs : List ℤ) (count : ℕ) → count ≤ length ws → count ≤ length cs → Judging ws cs count 0 largest_degree 18446744073709551615 0
-start ws cs count words coefficients = record {
+pub start : (ws : List ℕ) (cs : List ℤ) → length cs ≡ length ws → Judging ws cs 0 largest_degree 18446744073709551615 0
+start ws cs as_many = record {
   before = [];
   left = omega arith;
   weighed = sym weight-none;
   light = omega arith;
   latest = latest-none;
   inside = omega arith;
-  words = words;
-  coefficients = coefficients;
+  as_many = as_many;
 }
 
-pub ended : {ws : List ℕ} {cs : List ℤ} {count total d last k : ℕ} → Judging ws cs count total d last k → count ≤ k → count ≡ good_terms [] (take count ws) (take count cs)
-ended {ws} {cs} {count} {total} {d} {last} {k} j h =
-    let short : length (take count ws) ≤ k = omega (arith, length-take-le count ws j.words) in
-    let none : drop k (take count ws) ≡ [] = drop_of_length-le (take count ws) short in
-    let no_more : good_terms j.before (drop k (take count ws)) (drop k (take count cs)) ≡ 0 =
-    ap (λ l. good_terms j.before l (drop k (take count cs))) none ∙ none_left j.before (drop k (take count cs)) in
+pub ended : {ws : List ℕ} {cs : List ℤ} {total d last k : ℕ} → Judging ws cs total d last k → length ws ≤ k → length ws ≡ good_terms [] ws cs
+ended {ws} {cs} {total} {d} {last} {k} j h =
+    let no_more : good_terms j.before (drop k ws) (drop k cs) ≡ 0 =
+    ap (λ l. good_terms j.before l (drop k cs)) (drop_of_length-le ws h) ∙ none_left j.before (drop k cs) in
     omega (arith, j.left, j.inside)
 
 -- ---- One more term is met.
 
-pub record Meeting (ws : List ℕ) (cs : List ℤ) (count total d last k size : ℕ) : Type 0 where
-  pub judging : Judging ws cs count total d last k
-  pub more : k < count
+pub record Meeting (ws : List ℕ) (cs : List ℤ) (total d last k size : ℕ) : Type 0 where
+  pub judging : Judging ws cs total d last k
+  pub more : k < length ws
   -- `size` is what the code has for its absolute coefficient
   pub is : size ≡ nat_abs (get_or cs k (pos 0))
 
-module _ {ws : List ℕ} {cs : List ℤ} {count total d last k size : ℕ} (m : Meeting ws cs count total d last k size) where
+module _ {ws : List ℕ} {cs : List ℤ} {total d last k size : ℕ} (m : Meeting ws cs total d last k size) where
   abbrev before : Sum
   before = m.judging.before
 
@@ -143,36 +139,36 @@ module _ {ws : List ℕ} {cs : List ℤ} {count total d last k size : ℕ} (m : 
 
   -- what is left after it
   abbrev words_left : List ℕ
-  words_left = drop (k + 1) (take count ws)
+  words_left = drop (k + 1) ws
 
   abbrev coefficients-left : List ℤ
-  coefficients-left = drop (k + 1) (take count cs)
+  coefficients-left = drop (k + 1) cs
 
-  next : good_terms before (drop k (take count ws)) (drop k (take count cs)) ≡ good_terms before (w ∷ words_left) (c ∷ coefficients-left)
+  next : good_terms before (drop k ws) (drop k cs) ≡ good_terms before (w ∷ words_left) (c ∷ coefficients-left)
   next =
-      ap₂ (good_terms before) (first_next 0 count ws m.judging.words k m.more) (first_next (pos 0) count cs m.judging.coefficients k m.more)
+      rw add-one (ap₂ (good_terms before) (drop-cons ws k 0 m.more) (drop-cons cs k (pos 0) (omega (arith, m.more, m.judging.as_many))))
 
-  stops : (Valid (get_or ws k 0) → Fit variables before (term (get_or cs k (pos 0)) (exponents (get_or ws k 0))) → ⊥) → k ≡ good_terms [] (take count ws) (take count cs)
+  stops : (Valid (get_or ws k 0) → Fit variables before (term (get_or cs k (pos 0)) (exponents (get_or ws k 0))) → ⊥) → k ≡ good_terms [] ws cs
   stops h =
       let bad = bad-next before w c words_left coefficients-left (λ good. let f = good-fit before w c good in h f.0 f.1) in
-      let none_more : good_terms before (drop k (take count ws)) (drop k (take count cs)) ≡ 0 = next ∙ bad in
+      let none_more : good_terms before (drop k ws) (drop k cs) ≡ 0 = next ∙ bad in
       omega (arith, m.judging.left)
 
-  pub zero-stops : size ≡ 0 → k ≡ good_terms [] (take count ws) (take count cs)
+  pub zero-stops : size ≡ 0 → k ≡ good_terms [] ws cs
   zero-stops h = stops (λ valid f. no_size c (sym m.is ∙ h) (weighs-some (weight before) c f.light))
 
-  pub heavy-stops : largest_weight - total < size → k ≡ good_terms [] (take count ws) (take count cs)
+  pub heavy-stops : largest_weight - total < size → k ≡ good_terms [] ws cs
   heavy-stops h = stops (λ valid f. absurd (omega (arith, m.judging.weighed, m.is, weighs-light (weight before) c f.light)))
 
   module _ {n : ℕ} (total-is : n ≡ degree (exponents (get_or ws k 0))) where
-    pub high-stops : d < n → k ≡ good_terms [] (take count ws) (take count cs)
+    pub high-stops : d < n → k ≡ good_terms [] ws cs
     high-stops h = stops (λ valid f. absurd (omega (arith, total-is, (m.judging.latest.passes w valid f.after).0)))
 
-    pub early-stops : n ≡ d → last ≤ get_or ws k 0 → k ≡ good_terms [] (take count ws) (take count cs)
+    pub early-stops : n ≡ d → last ≤ get_or ws k 0 → k ≡ good_terms [] ws cs
     early-stops e h = stops (λ valid f. absurd (omega (arith, (m.judging.latest.passes w valid f.after).1 (sym total-is ∙ e))))
 
     pub again : (size ≡ 0 → ⊥) → size ≤ largest_weight - total → get_or ws k 0 < 2 ^ 64 → n ≤ d → (n ≡ d → get_or ws k 0 < last)
-        → Judging ws cs count (total + size) n (get_or ws k 0) (k + 1)
+        → Judging ws cs (total + size) n (get_or ws k 0) (k + 1)
     again some light small low tie =
         let j = m.judging in
         let t = term c (exponents w) in
@@ -183,7 +179,7 @@ module _ {ws : List ℕ} {cs : List ℤ} {count total d last k size : ℕ} (m : 
           after = j.latest.follow w valid (omega (arith, total-is)) (λ e. tie (total-is ∙ e));
           long = exponents-length w;
         } in
-        let one_more : good_terms before (drop k (take count ws)) (drop k (take count cs)) ≡ suc (good_terms (t ∷ before) words_left coefficients-left) =
+        let one_more : good_terms before (drop k ws) (drop k cs) ≡ suc (good_terms (t ∷ before) words_left coefficients-left) =
         next ∙ good-next before w c words_left coefficients-left (fit-good before w c valid fit) in
         record {
           before = t ∷ before;
@@ -192,6 +188,5 @@ module _ {ws : List ℕ} {cs : List ℤ} {count total d last k size : ℕ} (m : 
           light = omega (arith, j.light);
           latest = latest-some before c w n valid total-is;
           inside = omega (arith, m.more);
-          words = j.words;
-          coefficients = j.coefficients;
+          as_many = j.as_many;
         }

@@ -41,6 +41,11 @@ module _ (count : ℕ) (ws : List ℕ) (cs : List ℤ) (area : List ℕ) where
   few_coefficients room few words h =
       rw (le-leb (most_bytes variables) (length area) room, le-leb count most_terms few, le-leb count (length ws) words, lt-leb count (length cs) h)
 
+-- what is judged are the first `count` terms
+pub judged : {good : ℕ} {words : List ℕ} {coefficients : List ℤ} (count : ℕ) (ws : List ℕ) (cs : List ℤ) → good ≡ good_terms [] words coefficients → words ≡ take count ws → coefficients ≡ take count cs
+    → good ≡ good_terms [] (take count ws) (take count cs)
+judged count ws cs is words coefficients = is ∙ ap₂ (good_terms []) words coefficients
+
 -- ---- The tests are passed, and the terms are judged.
 
 module _ {count : ℕ} {ws : List ℕ} {cs : List ℤ} {area : List ℕ} (p : PackFits count ws cs area) where

@@ -16,20 +16,17 @@ use Rattle.algebra.proofs.Sums.Every.{degree-every}
 use Rattle.algebra.proofs.Sums.Ordered.{parts}
 use Rattle.algebra.proofs.Sums.Held.{terms-again}
 use Rattle.answers.specs.Refusals.{SUM}
-use Rattle.answers.specs.Answers.{Told, Told.done, Told.refused, told, outcome}
+use Rattle.answers.specs.Answers.{Told, Told.done, Told.refused, outcome}
 use Rattle.answers.specs.Areas.{written}
 use Rattle.answers.specs.Judge.{Judged, Judged.good, Judged.fails, and_then}
-use Rattle.answers.specs.declared.Answer.{Answer}
-use Rattle.answers.specs.declared.Answer.TheVariants.{Done}
-use Rattle.answers.proofs.Refusing.{NotDone}
+use Rattle.std.specs.Prelude.{Err}
+use Rattle.numbers.specs.declared.Fault as declared
 use Rattle.answers.proofs.Judging.{then-good, then-fails}
 use Rattle.answers.proofs.Writes.{written-front}
 use Rattle.numbers.specs.Item.{Item, Item.got, Item.stopped, mapped, Fault, Fault.cut, Fault.bad}
 use Rattle.numbers.proofs.Items.{place_of}
 use Rattle.numbers.specs.Inside.Read.{item_of}
-use Rattle.numbers.specs.declared.Read.{Read}
-use Rattle.numbers.specs.declared.Read.TheVariants.{Value}
-use Rattle.numbers.proofs.Items.{NoValue, Alike, Alike.both, alike_then, stop-met, answered, number-stopped}
+use Rattle.numbers.proofs.Items.{Alike, Alike.both, alike_then, fault-met, number-fault, came_from}
 use Rattle.packed.specs.Packed.{packed, most_bytes}
 use Rattle.packed.specs.ReadSum.{read_whole}
 use Rattle.packed.specs.Inside.Held.{read_into, read_count, read_rest, fault}
@@ -94,8 +91,8 @@ handed {bytes} {x} {t} a says = go (read_whole variables bytes) refl a says
     go (stopped bad place) read both says = record { place = place; says = says; fault = is_bad read }
     go (got _ _) read x7 says = elim x7 [ ]
 
-pub count-refused : (bytes : List ℕ) (r : Read) → NoValue r → item_of r ≡ read_count bytes 0 → {t : Told} → t ≡ fault SUM (item_of r) → Handed bytes t
-count-refused bytes r keys e says = handed (subst (Alike (item_of r)) (sym (whole_split variables bytes)) (alike_then _ (number-stopped r keys (read_count bytes 0) e))) says
+pub count-refused : (bytes : List ℕ) (f : declared.Fault) → item_of (Err f) ≡ read_count bytes 0 → {t : Told} → t ≡ fault SUM (item_of (Err f)) → Handed bytes t
+count-refused bytes f e says = handed (subst (Alike (item_of (Err f))) (sym (whole_split variables bytes)) (alike_then _ (number-fault f (read_count bytes 0) e))) says
 
 -- the sum that two arrays hold
 pub record Whole (bytes ws : List ℕ) (cs : List ℤ) (ws' : List ℕ) (cs' : List ℤ) (count : ℕ) : Type 0 where
@@ -105,16 +102,16 @@ pub record Whole (bytes ws : List ℕ) (cs : List ℤ) (ws' : List ℕ) (cs' : L
   pub words_are : ws' ≡ written (words_of sum) ws
   pub coefficients_are : cs' ≡ written (coefficients_of sum) cs
 
-module _ (bytes : List ℕ) {count next : ℕ} (counted : read_count bytes 0 ≡ got count next) (ws : List ℕ) (cs : List ℤ) {ws' : List ℕ} {cs' : List ℤ} (r : Answer)
-    (e : outcome (told r) (ws', cs') ≡ whole_into count (judged SUM (read_rest variables count bytes next)) ws cs) where
-  pub rest-refused : NotDone r → Handed bytes (told r)
-  rest-refused key =
-      let stop = whole-refused count bytes next ws cs r key e in
+module _ (bytes : List ℕ) {count next : ℕ} (counted : read_count bytes 0 ≡ got count next) (ws : List ℕ) (cs : List ℤ) {ws' : List ℕ} {cs' : List ℤ} where
+  pub rest-refused : {refusal p : ℕ} → outcome (refused refusal p) (ws', cs') ≡ whole_into count (judged SUM (read_rest variables count bytes next)) ws cs → Handed bytes (refused refusal p)
+  rest-refused e =
+      let stop = whole-refused count bytes next ws cs e in
       handed (subst (Alike stop.0) (sym (whole-rest variables bytes counted)) stop.1) stop.2
 
-  pub rest-taken : ((i : ℕ) → get_or bytes i 0 < 256) → {n : ℕ} → r ≡ Done n → Whole bytes ws cs ws' cs' count
-  rest-taken byte key =
-      let all = whole-done count bytes next ws cs r key e in
+  pub rest-taken : ((i : ℕ) → get_or bytes i 0 < 256) → {n : ℕ} → outcome (done n) (ws', cs') ≡ whole_into count (judged SUM (read_rest variables count bytes next)) ws cs
+      → Whole bytes ws cs ws' cs' count
+  rest-taken byte e =
+      let all = whole-done count bytes next ws cs e in
       let t = all.2 in
       let w = whole-written bytes byte variables t.sum all.0 (whole-rest variables bytes counted ∙ t.read) in
       record { sum = t.sum; of_bytes = record { accepted = w.1; bytes_are = w.0 }; many = t.many; words_are = t.words_are; coefficients_are = t.coefficients_are }
@@ -126,14 +123,14 @@ unfolding read_into mapped
 counted (got s next) ws cs = refl
 counted (stopped what place) ws cs = refl
 
-module _ (r : Read) (item : Item Fault Sum) (ws : List ℕ) (cs : List ℤ) {ws' : List ℕ} {cs' : List ℤ} (e : (item_of r, ws', cs') ≡ read_into item ws cs) where
-  pub into-stopped : NoValue r → Alike (item_of r) item
-  into-stopped keys = stop-met r keys length item (ap (λ x. x.0) e ∙ counted item ws cs)
+module _ (item : Item Fault Sum) (ws : List ℕ) (cs : List ℤ) {ws' : List ℕ} {cs' : List ℤ} where
+  pub into-stopped : (f : declared.Fault) → (item_of (Err f), ws', cs') ≡ read_into item ws cs → Alike (item_of (Err f)) item
+  into-stopped f e = fault-met f length item (ap (λ x. x.0) e ∙ counted item ws cs)
 
-  pub into-read : {count end : ℕ} → r ≡ Value count end → ReadAt item ws cs ws' cs' count end
+  pub into-read : {count end : ℕ} → (got count end, ws', cs') ≡ read_into item ws cs → ReadAt item ws cs ws' cs' count end
   unfolding read_into
-  into-read is =
-      let from = answered r is length item (ap (λ x. x.0) e ∙ counted item ws cs) in
+  into-read {count} {end} e =
+      let from = came_from length item count end (sym (ap (λ x. x.0) e ∙ counted item ws cs)) in
       let held = e ∙ ap (λ i. read_into i ws cs) from.is in
       record { sum = from.value; read = from.is; many = from.shown; words_are = ap (λ x. x.1) held; coefficients_are = ap (λ x. x.2) held }
 

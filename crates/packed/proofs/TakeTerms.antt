@@ -1,18 +1,20 @@
 -- What the loop over terms keeps: the terms before stand in the two arrays, and what is left is read after them.
 use mathlib.Core.Path.{◌≡◌, refl, sym, ◌∙◌, ap, ap₂, subst}
-use mathlib.Core.Bool.{true, false, ◌||◌}
+use mathlib.Core.Bool.{true, false}
 use mathlib.Core.List.{List, [], ◌∷◌, ◌++◌, map, map-append, append_assoc}
 use Prim.Native.Nat.{ℕ, suc, ◌+◌, ◌-◌, ◌≤◌, ◌<◌}
 use native.Mathlib.Omega.{arith}
 use native.Mathlib.Nat.{add_comm}
-use lib.Dec.{eqb}
 use lib.IntN.{ℤ, nat_abs}
 use lib.ListN.{length, take, set, length-set, length-map}
+use Rattle.std.specs.Prelude.{Option, Some, None}
+use Rattle.algebra.specs.declared.Pattern as declared
+use Rattle.packed.specs.Inside.Last.{may_follow}
 use Rattle.algebra.specs.Limits.{variables, largest_degree, largest_weight}
-use Rattle.algebra.specs.Pattern.{empty_pattern, degree, order}
+use Rattle.algebra.specs.Pattern.{degree}
 use Rattle.algebra.specs.Inside.Filled.{filled}
-use Rattle.algebra.specs.Sum.{Term, term, Sum, is_before, weight}
-use Rattle.algebra.specs.Word.{word, exponents, Valid}
+use Rattle.algebra.specs.Sum.{Term, term, Sum, weight}
+use Rattle.algebra.specs.Word.{exponents, Valid}
 use Rattle.algebra.proofs.Patterns.Laws.{filled-length, filled-degree}
 use Rattle.algebra.proofs.Patterns.Word.{word-valid, exponents-word}
 use Rattle.answers.specs.Areas.{written}
@@ -62,13 +64,13 @@ no-sum both e is = let z : ◌≡◌ {A = ℕ} 0 1 = cc in omega arith
 
 -- ---- The loop.
 
-pub record Takes (s : List ℕ) (at n count : ℕ) (words₀ : List ℕ) (coefficients₀ : List ℤ) (words : List ℕ) (coefficients : List ℤ) (place total last k : ℕ) : Type 0 where
+pub record Takes (s : List ℕ) (at n count : ℕ) (words₀ : List ℕ) (coefficients₀ : List ℤ) (words : List ℕ) (coefficients : List ℤ) (place total : ℕ) (last : Option declared.Pattern) (k : ℕ) : Type 0 where
   pub before : Sum
   pub left : read_terms n count [] s at ≡ mapped (onto before) (read_terms n (count - k) before s place)
   pub many : length before ≡ k
   pub weighed : total ≡ weight before
   pub light : total ≤ largest_weight
-  pub last_is : Last n before k last
+  pub last_is : Last n before last
   pub words_are : words ≡ written (words_for (onto before [])) words₀
   pub coefficients_are : coefficients ≡ written (coefficients_of (onto before [])) coefficients₀
   pub inside : k ≤ count
@@ -78,10 +80,10 @@ pub record Takes (s : List ℕ) (at n count : ℕ) (words₀ : List ℕ) (coeffi
   pub same_words : length words ≡ length words₀
   pub same_coefficients : length coefficients ≡ length coefficients₀
 
-pub start : (s : List ℕ) (at n count : ℕ) (words : List ℕ) (coefficients : List ℤ) (w : ℕ) → w ≡ word (empty_pattern variables) → n ≤ variables → count ≤ length words → count ≤ length coefficients
-    → Takes s at n count words coefficients words coefficients at 0 w 0
+pub start : (s : List ℕ) (at n count : ℕ) (words : List ℕ) (coefficients : List ℤ) → n ≤ variables → count ≤ length words → count ≤ length coefficients
+    → Takes s at n count words coefficients words coefficients at 0 None 0
 unfolding weight
-start s at n count words coefficients w e most enough room =
+start s at n count words coefficients most enough room =
     let all : count - 0 ≡ count = omega arith in
     record {
       before = [];
@@ -89,7 +91,7 @@ start s at n count words coefficients w e most enough room =
       many = refl;
       weighed = refl;
       light = omega arith;
-      last_is = last_none n w e;
+      last_is = last_none n;
       words_are = refl;
       coefficients_are = refl;
       inside = omega arith;
@@ -100,7 +102,7 @@ start s at n count words coefficients w e most enough room =
       same_coefficients = refl;
     }
 
-module _ {s : List ℕ} {at n count : ℕ} {words₀ : List ℕ} {coefficients₀ : List ℤ} {words : List ℕ} {coefficients : List ℤ} {place total last k : ℕ}
+module _ {s : List ℕ} {at n count : ℕ} {words₀ : List ℕ} {coefficients₀ : List ℤ} {words : List ℕ} {coefficients : List ℤ} {place total : ℕ} {last : Option declared.Pattern} {k : ℕ}
     (t : Takes s at n count words₀ coefficients₀ words coefficients place total last k) where
   -- whatever comes, only the first `count` places are other than before
   words_kept : words ≡ written (take count words) words₀
@@ -165,19 +167,19 @@ module _ {s : List ℕ} {at n count : ℕ} {words₀ : List ℕ} {coefficients�
       exponents-are = ap exponents (sym rest.shown) ∙ exponents-word (filled variables rest.value) long low
 
       -- the order's test, as the code makes it
-      test-is : follows t.before rest.value ≡ (eqb k 0 || is_before (order (exponents last) (exponents w)))
-      test-is = t.last_is.is rest.value p-fits.0 ∙ ap (λ p. eqb k 0 || is_before (order (exponents last) p)) (sym exponents-are)
+      test-is : follows t.before rest.value ≡ may_follow last (exponents w)
+      test-is = t.last_is.is rest.value p-fits.0 ∙ ap (may_follow last) (sym exponents-are)
 
       term-so-far : read_term n t.before s place ≡ provided (follows t.before rest.value) bad place (got (term first.value rest.value) end)
       unfolding read_term
       term-so-far = then-got _ first-is ∙ then-got _ rest.is
 
-      pub disorder : (eqb k 0 || is_before (order (exponents last) (exponents w))) ≡ false → stopped bad place ≡ mapped length (read_terms n count [] s at)
+      pub disorder : may_follow last (exponents w) ≡ false → stopped bad place ≡ mapped length (read_terms n count [] s at)
       unfolding provided
       disorder e = term-stops h (subst (Alike (stopped bad place)) (sym (term-so-far ∙ rw (test-is ∙ e))) both)
 
-      pub again : {total' : ℕ} {z : ℤ} → (eqb k 0 || is_before (order (exponents last) (exponents w))) ≡ true → z ≡ decode c → total' ≡ total + nat_abs (decode c)
-          → Takes s at n count words₀ coefficients₀ (set words k w) (set coefficients k z) end total' w (k + 1)
+      pub again : {total' : ℕ} {z : ℤ} → may_follow last (exponents w) ≡ true → z ≡ decode c → total' ≡ total + nat_abs (decode c)
+          → Takes s at n count words₀ coefficients₀ (set words k w) (set coefficients k z) end total' (Some (record { 0 = w })) (k + 1)
       unfolding read_terms weight provided
       again {total'} {z} e coefficient grown = record {
         before = term first.value rest.value ∷ t.before;
@@ -188,7 +190,7 @@ module _ {s : List ℕ} {at n count : ℕ} {words₀ : List ℕ} {coefficients�
         many = omega (arith, t.many);
         weighed = grown ∙ rw (coefficient-is, t.weighed) (add_comm (weight t.before) (nat_abs first.value));
         light = omega (arith, grown, heavier);
-        last_is = last_some n t.before (term first.value rest.value) k w valid exponents-are p-fits.0;
+        last_is = last_some n t.before (term first.value rest.value) (record { 0 = w }) valid exponents-are p-fits.0;
         words_are =
             ap₂ (λ (l : List ℕ) (v : ℕ). set l k v) t.words_are (sym rest.shown)
             ∙ onto-written (λ (u : Term). word_for u.pattern) t.before (term first.value rest.value) words₀ k t.many (omega (arith, t.words_room));

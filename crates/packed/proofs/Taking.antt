@@ -15,10 +15,12 @@ use Rattle.algebra.proofs.Sums.Every.{Every, Long}
 use Rattle.answers.specs.Areas.{written, cleared}
 use Rattle.answers.proofs.Writes.{written_over}
 use Rattle.numbers.specs.Item.{Item, Item.got, Item.stopped, mapped, Fault}
-use Rattle.numbers.specs.Inside.Read.{item_of}
-use Rattle.numbers.specs.declared.Read.{Read}
-use Rattle.numbers.specs.declared.Read.TheVariants.{Value}
-use Rattle.numbers.proofs.Items.{NoValue, Alike, Alike.both, stop-met, answered}
+use Rattle.numbers.specs.Inside.Read.{Reading, item_of}
+use Rattle.std.specs.Prelude.{Option, None, Ok, Err}
+use Rattle.std.specs.Result.{is_err}
+use mathlib.Core.Bool.{true, false}
+use Rattle.numbers.specs.declared.Fault as declared
+use Rattle.numbers.proofs.Items.{Alike, Alike.both, fault-met, came_from}
 use Rattle.packed.specs.ReadSum.{read_terms}
 use Rattle.packed.specs.Pack.{good_terms}
 use Rattle.packed.specs.Inside.Arrays.{words_for, Holds, taken_into, Copies, Takes}
@@ -48,15 +50,26 @@ module _ (count : ℕ) {ws₀ : List ℕ} {cs₀ : List ℤ} {ws : List ℕ} {cs
   each-stops both held words coefficients = rw (words ∙ cleared-kept count ws₀ held.words_kept 0, coefficients ∙ cleared-kept count cs₀ held.coefficients_kept (pos 0))
 
   -- every pattern that was read has all its exponents
-  pub each-taken : {r : Read} {n next : ℕ} {all : Item Fault Sum} → r ≡ Value n next → item_of r ≡ mapped length all → Holds count all ws₀ cs₀ ws cs
-      → ((s : Sum) (end : ℕ) → all ≡ got s end → Every (Long variables) s) → (item_of r, ws, cs) ≡ taken_into count all ws₀ cs₀
+  pub each-taken : {n next : ℕ} (all : Item Fault Sum) → got n next ≡ mapped length all → Holds count all ws₀ cs₀ ws cs
+      → ((s : Sum) (end : ℕ) → all ≡ got s end → Every (Long variables) s) → (got n next, ws, cs) ≡ taken_into count all ws₀ cs₀
   unfolding taken_into
-  each-taken {r} {n} {next} {all} is e held long =
-      let from = answered r is length all e in
-      let first : item_of r ≡ got (length from.value) next = ap item_of is ∙ ap (λ (k : ℕ). got k next) (sym from.shown) in
+  each-taken {n} {next} all e held long =
+      let from = came_from length all n next (sym e) in
+      let first : got n next ≡ got (length from.value) next = ap (λ (k : ℕ). got k next) (sym from.shown) in
       let words = held.words_are from.value next from.is ∙ ap (λ l. written l ws₀) (words-for from.value (long from.value next from.is)) in
       let coefficients = held.coefficients_are from.value next from.is in
       (λ i. (first i, words i, coefficients i)) ∙ ap (λ item. taken_into count item ws₀ cs₀) (sym from.is)
+
+  -- by whether the code's answer is a fault
+  pub each-ok : (r : Reading) (all : Item Fault Sum) → is_err r ≡ false → item_of r ≡ mapped length all → Holds count all ws₀ cs₀ ws cs
+      → ((s : Sum) (end : ℕ) → all ≡ got s end → Every (Long variables) s) → (item_of r, ws, cs) ≡ taken_into count all ws₀ cs₀
+  each-ok (Ok (n, next)) all ok e held long = each-taken all e held long
+  each-ok (Err f) all ok e held long = let z : ◌≡◌ {A = ℕ} 0 1 = cc in absurd (omega arith)
+
+  pub each-err : (r : Reading) (all : Item Fault Sum) {ws' : List ℕ} {cs' : List ℤ} → is_err r ≡ true → item_of r ≡ mapped length all → Holds count all ws₀ cs₀ ws cs
+      → ws' ≡ cleared 0 count ws → cs' ≡ cleared (pos 0) count cs → (item_of r, ws', cs') ≡ taken_into count all ws₀ cs₀
+  each-err (Ok item) all err e held words coefficients = let z : ◌≡◌ {A = ℕ} 0 1 = cc in absurd (omega arith)
+  each-err (Err f) all err e held words coefficients = each-stops (fault-met f length all e) held words coefficients
 
 -- ---- `take`.
 
@@ -69,24 +82,30 @@ taken-over count (got s next) ws₀ cs₀ many words coefficients =
 taken-over count (stopped what place) ws₀ cs₀ many words coefficients = rw (cleared-kept count ws₀ words 0, cleared-kept count cs₀ coefficients (pos 0))
 
 -- what is read item by item is the same, whatever was taken before
-pub taken-again : {count : ℕ} {s : List ℕ} {at end : ℕ} {ws₀ : List ℕ} {cs₀ : List ℤ} {ws : List ℕ} {cs : List ℤ} → Takes count s at end ws₀ cs₀ ws cs
+pub taken-again : {count : ℕ} {s : List ℕ} {at : ℕ} {taken : Option ℕ} {ws₀ : List ℕ} {cs₀ : List ℤ} {ws : List ℕ} {cs : List ℤ} → Takes count s at taken ws₀ cs₀ ws cs
     → taken_into count (read_terms variables count [] s at) ws cs ≡ taken_into count (read_terms variables count [] s at) ws₀ cs₀
 taken-again {count} {s} {at} {ws₀ = ws₀} {cs₀ = cs₀} t =
     taken-over count (read_terms variables count [] s at) ws₀ cs₀ (λ sum next e. terms-many variables count [] sum s at next e) t.words_kept t.coefficients_kept
 
+-- so the answer of `take_each` is about the arrays as they were before
+pub each-after : {count : ℕ} {s : List ℕ} {at : ℕ} {taken : Option ℕ} {ws₀ : List ℕ} {cs₀ : List ℤ} {ws : List ℕ} {cs : List ℤ} → Takes count s at taken ws₀ cs₀ ws cs
+    → {r r' : Reading} {ws' : List ℕ} {cs' : List ℤ} → r ≡ r' → (item_of r, ws', cs') ≡ taken_into count (read_terms variables count [] s at) ws cs
+    → (item_of r', ws', cs') ≡ taken_into count (read_terms variables count [] s at) ws₀ cs₀
+each-after t {ws' = ws'} {cs' = cs'} is e = sym (ap (λ r. (item_of r, ws', cs')) is) ∙ e ∙ taken-again t
+
 -- ---- `take_good`.
 
-module _ {count : ℕ} {s : List ℕ} {at end : ℕ} {ws₀ : List ℕ} {cs₀ : List ℤ} {ws : List ℕ} {cs : List ℤ} (copies : Copies count s at end ws₀ cs₀ ws cs) where
-  pub not_good : Takes count s at 0 ws₀ cs₀ ws cs
-  not_good = record { words_kept = copies.words_kept; coefficients_kept = copies.coefficients_kept; are = λ after. absurd (omega (arith, after)) }
+module _ {count : ℕ} {s : List ℕ} {at : ℕ} {copied : Option ℕ} {ws₀ : List ℕ} {cs₀ : List ℤ} {ws : List ℕ} {cs : List ℤ} (copies : Copies count s at copied ws₀ cs₀ ws cs) where
+  pub not_good : Takes count s at None ws₀ cs₀ ws cs
+  not_good = record { words_kept = copies.words_kept; coefficients_kept = copies.coefficients_kept; are = λ end is. let z : ◌≡◌ {A = ℕ} 0 1 = cc in absurd (omega arith) }
 
   -- all terms that were copied are good
-  pub all_good : count ≤ length ws → count ≤ length cs → count ≤ good_terms [] (take count ws) (take count cs) → Takes count s at end ws₀ cs₀ ws cs
+  pub all_good : count ≤ length ws → count ≤ length cs → count ≤ good_terms [] (take count ws) (take count cs) → Takes count s at copied ws₀ cs₀ ws cs
   unfolding taken_into
   all_good words coefficients good = record {
     words_kept = copies.words_kept;
     coefficients_kept = copies.coefficients_kept;
-    are = λ after.
+    are = λ end is.
         let long = length-take-le count ws words in
         let every : good_terms [] (take count ws) (take count cs) ≡ count = omega (arith, good-most [] (take count ws) (take count cs)) in
         let valid = each-valid (take count ws) (terms-good [] (take count ws) (take count cs) (every ∙ sym long)).0 in
@@ -94,7 +113,7 @@ module _ {count : ℕ} {s : List ℕ} {at end : ℕ} {ws₀ : List ℕ} {cs₀ :
         let first : got count end ≡ got (length sum) end = ap (λ (k : ℕ). got k end) (sym (front_length count ws cs words coefficients)) in
         let words_are : ws ≡ written (words_of sum) ws₀ = copies.words_kept ∙ ap (λ l. written l ws₀) (sym (front-words count ws cs words coefficients valid)) in
         let coefficients_are : cs ≡ written (coefficients_of sum) cs₀ = copies.coefficients_kept ∙ ap (λ l. written l cs₀) (sym (front-coefficients count ws cs words coefficients)) in
-        (λ i. (first i, words_are i, coefficients_are i)) ∙ ap (λ item. taken_into count item ws₀ cs₀) (sym (copies.are after every));
+        (λ i. (first i, words_are i, coefficients_are i)) ∙ ap (λ item. taken_into count item ws₀ cs₀) (sym (copies.are end is every));
   }
 
 -- ---- What a caller of `take` knows.
@@ -112,14 +131,14 @@ unfolding taken_into mapped
 counted count (got s next) ws cs = refl
 counted count (stopped what place) ws cs = refl
 
-module _ (r : Read) (count : ℕ) (item : Item Fault Sum) (ws : List ℕ) (cs : List ℤ) {ws' : List ℕ} {cs' : List ℤ} (e : (item_of r, ws', cs') ≡ taken_into count item ws cs) where
-  pub taken-stopped : NoValue r → Alike (item_of r) item
-  taken-stopped keys = stop-met r keys length item (ap (λ x. x.0) e ∙ counted count item ws cs)
+module _ (count : ℕ) (item : Item Fault Sum) (ws : List ℕ) (cs : List ℤ) {ws' : List ℕ} {cs' : List ℤ} where
+  pub taken-stopped : (f : declared.Fault) → (item_of (Err f), ws', cs') ≡ taken_into count item ws cs → Alike (item_of (Err f)) item
+  taken-stopped f e = fault-met f length item (ap (λ x. x.0) e ∙ counted count item ws cs)
 
-  pub taken-read : {n end : ℕ} → r ≡ Value n end → ReadAt item ws cs ws' cs' n end
+  pub taken-read : {n end : ℕ} → (got n end, ws', cs') ≡ taken_into count item ws cs → ReadAt item ws cs ws' cs' n end
   unfolding taken_into
-  taken-read is =
-      let from = answered r is length item (ap (λ x. x.0) e ∙ counted count item ws cs) in
+  taken-read {n} {end} e =
+      let from = came_from length item n end (sym (ap (λ x. x.0) e ∙ counted count item ws cs)) in
       let held = e ∙ ap (λ i. taken_into count i ws cs) from.is in
       record { sum = from.value; read = from.is; many = from.shown; words_are = ap (λ x. x.1) held; coefficients_are = ap (λ x. x.2) held }
 

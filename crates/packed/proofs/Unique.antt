@@ -5,7 +5,7 @@ use Prim.Native.Nat.{ℕ}
 use lib.IntN.{ℤ}
 use Rattle.answers.proofs.Outcomes.{same}
 use Rattle.answers.specs.Promised.{One, OneLent}
-use Rattle.answers.proofs.Unique.{told-one, outcome-one}
+use Rattle.answers.proofs.Unique.{refusal-one, outcome-one}
 use Rattle.numbers.proofs.Unique.{item-one}
 use Rattle.packed.proofs.read_count.Reads as read_count
 use Rattle.packed.proofs.read_sum.Reads as read-sum
@@ -30,11 +30,11 @@ read-item-one k a r r' e e' h h' = item-one r r' (same h h')
 
 -- Refused when tried: refuses a count of 128; a count that is too large is bad at place 0.
 pub read-count-one : One read_count.Learnt
-read-count-one k a r r' e e' h h' = item-one r r' (same h h')
+read-count-one k a r r' e e' h h' = item-one r r' (same h.0 h'.0)
 
 -- Refused when tried: ROOM in SUM's stead where the bytes end too soon; VARIABLE in SUM's stead elsewhere.
 pub refused-one : One refused.Learnt
-refused-one k a r r' e e' h h' = told-one r r' (same h h')
+refused-one k a r r' e e' h h' = refusal-one r r' (same h h')
 
 -- Refused when tried: good terms are taken whatever follows them; the words are not cleared where bytes are left over.
 pub take-whole-one : OneLent take_whole.Learnt {L = List ℕ × List ℤ} (λ k e. (e.1.1.1.0.now, e.1.1.1.1.0.now))

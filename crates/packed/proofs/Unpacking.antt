@@ -11,18 +11,13 @@ use Rattle.algebra.specs.Limits.{variables, most_terms}
 use Rattle.algebra.specs.Sum.{Term, Sum}
 use Rattle.algebra.specs.Held.{words_of, coefficients_of}
 use Rattle.algebra.specs.Word.{word}
-use Rattle.answers.specs.Refusals.{ROOM, SUM, number}
-use Rattle.answers.specs.Answers.{Told, Told.done, Told.refused, told, outcome}
+use Rattle.answers.specs.Refusals.{ROOM, SUM}
+use Rattle.answers.specs.Answers.{Told, Told.done, Told.refused, outcome}
 use Rattle.answers.specs.Areas.{written, cleared}
-use Rattle.answers.specs.declared.Answer.{Answer}
-use Rattle.answers.specs.declared.Answer.TheVariants.{Done, Refused}
-use Rattle.answers.proofs.Refusing.{NotDone}
+use Rattle.std.specs.Prelude.{Some}
 use Rattle.answers.proofs.Judging.{refused-done, done-same}
 use Rattle.answers.proofs.Writes.{written-front, written_over}
 use Rattle.numbers.specs.Item.{Item, Item.got, Item.stopped, Fault, Fault.bad}
-use Rattle.numbers.specs.Inside.Read.{item_of}
-use Rattle.numbers.specs.declared.Read.{Read}
-use Rattle.numbers.specs.declared.Read.TheVariants.{Value}
 use Rattle.numbers.proofs.Items.{Alike, Alike.both, alike_then, then-got, provided-yes, provided-no}
 use Rattle.packed.specs.ReadSum.{read_terms, read_sum, read_whole}
 use Rattle.packed.specs.Inside.Held.{read_into, read_count, read_rest, fault}
@@ -65,23 +60,23 @@ module _ (s : List ℕ) (at : ℕ) where
     pub terms-faulty : {x : Item Fault ℕ} → Alike x (read_terms variables count [] s next) → Alike x (read_sum variables s at)
     terms-faulty {x} a = subst (Alike x) (sym (sum-terms variables s at counted)) a
 
-    pub into-areas : {ws₀ : List ℕ} {cs₀ : List ℤ} {ws : List ℕ} {cs : List ℤ} {r : Read} {n end : ℕ} → r ≡ Value n end → ReadAt (read_terms variables count [] s next) ws₀ cs₀ ws cs n end
+    pub into-areas : {ws₀ : List ℕ} {cs₀ : List ℤ} {ws : List ℕ} {cs : List ℤ} {n end : ℕ} → ReadAt (read_terms variables count [] s next) ws₀ cs₀ ws cs n end
         → (area : List ℕ) (area-cs : List ℤ) {area' : List ℕ} {area-cs' : List ℤ} → area' ≡ written (take count ws) area → area-cs' ≡ written (take count cs) area-cs
-        → (item_of r, area', area-cs') ≡ read_into (read_sum variables s at) area area-cs
+        → (got n end, area', area-cs') ≡ read_into (read_sum variables s at) area area-cs
     unfolding read_into
-    into-areas {r} {n} {end} is t area area-cs words_are coefficients_are =
+    into-areas {n} {end} t area area-cs words_are coefficients_are =
         let many = terms-many variables count [] t.sum s next end t.read in
-        let first : item_of r ≡ got (length t.sum) end = ap item_of is ∙ ap (λ (k : ℕ). got k end) (sym t.many) in
+        let first : got n end ≡ got (length t.sum) end = ap (λ (k : ℕ). got k end) (sym t.many) in
         let words = words_are ∙ ap (λ l. written l area) (words-first t many).0 in
         let coefficients = coefficients_are ∙ ap (λ l. written l area-cs) (coefficients-first t many).0 in
         (λ i. (first i, words i, coefficients i)) ∙ ap (λ item. read_into item area area-cs) (sym (sum-terms variables s at counted ∙ t.read))
 
 -- ---- `take_whole`: what follows the terms is tested too.
 
-pub whole-stops : {x : Item Fault ℕ} {all : Item Fault Sum} (count : ℕ) (ws : List ℕ) (cs : List ℤ) {ws' : List ℕ} {cs' : List ℤ} → Alike x all
-    → (ws' ≡ cleared 0 count ws) × (cs' ≡ cleared (pos 0) count cs) → outcome (fault SUM x) (ws', cs') ≡ whole_into count (judged SUM all) ws cs
+pub whole-stops : {x : Item Fault ℕ} {all : Item Fault Sum} {t : Told} (count : ℕ) (ws : List ℕ) (cs : List ℤ) {ws' : List ℕ} {cs' : List ℤ} → Alike x all → t ≡ fault SUM x
+    → (ws' ≡ cleared 0 count ws) × (cs' ≡ cleared (pos 0) count cs) → outcome t (ws', cs') ≡ whole_into count (judged SUM all) ws cs
 unfolding whole_into
-whole-stops count ws cs both clear = rw (clear.0, clear.1)
+whole-stops count ws cs both says clear = rw (says, clear.0, clear.1)
 
 pub rest-stops : {x : Item Fault ℕ} (count : ℕ) (s : List ℕ) (at : ℕ) → Alike x (read_terms variables count [] s at) → Alike x (read_rest variables count s at)
 unfolding read_rest
@@ -112,18 +107,18 @@ module _ (count : ℕ) (s : List ℕ) (at : ℕ) {ws₀ : List ℕ} {cs₀ : Lis
       ∙ ap (λ r. whole_into count (judged SUM r) ws₀ cs₀) (sym (then-got _ t.read ∙ all))
 
 -- good terms that end with the bytes
-pub whole-good : {count : ℕ} {s : List ℕ} {at end : ℕ} {ws₀ : List ℕ} {cs₀ : List ℤ} {ws : List ℕ} {cs : List ℤ} → Takes count s at end ws₀ cs₀ ws cs → 0 < end → length s ≤ end
+pub whole-good : {count : ℕ} {s : List ℕ} {at end : ℕ} {ws₀ : List ℕ} {cs₀ : List ℤ} {ws : List ℕ} {cs : List ℤ} → Takes count s at (Some end) ws₀ cs₀ ws cs → length s ≤ end
     → outcome (done count) (ws, cs) ≡ whole_into count (judged SUM (read_rest variables count s at)) ws₀ cs₀
-whole-good {count} {s} {at} {end} {ws₀} {cs₀} t after h = whole-read count s at (taken-read (Value count end) count _ ws₀ cs₀ (t.are after) refl) h
+whole-good {count} {s} {at} {end} {ws₀} {cs₀} t h = whole-read count s at (taken-read count _ ws₀ cs₀ (t.are end refl)) h
 
 -- ---- What a caller of `take_whole` knows.
 
 module _ (count : ℕ) (s : List ℕ) (at : ℕ) (ws : List ℕ) (cs : List ℤ) {ws' : List ℕ} {cs' : List ℤ} where
   -- the sum that was read
-  pub whole-done : (r : Answer) {n : ℕ} → r ≡ Done n → outcome (told r) (ws', cs') ≡ whole_into count (judged SUM (read_rest variables count s at)) ws cs
+  pub whole-done : {n : ℕ} → outcome (done n) (ws', cs') ≡ whole_into count (judged SUM (read_rest variables count s at)) ws cs
       → (end : ℕ) × (n ≡ count) × (ReadAt (read_rest variables count s at) ws cs ws' cs' count end)
   unfolding whole_into
-  whole-done r {n} is e = go (read_rest variables count s at) refl (sym (ap (λ a. outcome (told a) (ws', cs')) is) ∙ e)
+  whole-done {n} e = go (read_rest variables count s at) refl e
     where
       go : (item : Item Fault Sum) → read_rest variables count s at ≡ item → outcome (done n) (ws', cs') ≡ whole_into count (judged SUM item) ws cs
           → (end : ℕ) × (n ≡ count) × (ReadAt (read_rest variables count s at) ws cs ws' cs' count end)
@@ -134,37 +129,36 @@ module _ (count : ℕ) (s : List ℕ) (at : ℕ) (ws : List ℕ) (cs : List ℤ)
       go (stopped what place) read f = absurd (refused-done (ap (λ o. o.answer) (sym f)))
 
   -- the fault that was met
-  pub whole-refused : (r : Answer) → NotDone r → outcome (told r) (ws', cs') ≡ whole_into count (judged SUM (read_rest variables count s at)) ws cs
-      → (x : Item Fault ℕ) × (Alike x (read_rest variables count s at)) × (told r ≡ fault SUM x)
+  pub whole-refused : {refusal p : ℕ} → outcome (refused refusal p) (ws', cs') ≡ whole_into count (judged SUM (read_rest variables count s at)) ws cs
+      → (x : Item Fault ℕ) × (Alike x (read_rest variables count s at)) × (refused refusal p ≡ fault SUM x)
   unfolding whole_into
-  whole-refused (Done n) key e = absurd (key n refl)
-  whole-refused (Refused refusal p) key e = go (read_rest variables count s at) e
+  whole-refused {refusal} {p} e = go (read_rest variables count s at) e
     where
-      go : (item : Item Fault Sum) → outcome (refused (number refusal) p) (ws', cs') ≡ whole_into count (judged SUM item) ws cs
-          → (x : Item Fault ℕ) × (Alike x item) × (refused (number refusal) p ≡ fault SUM x)
+      go : (item : Item Fault Sum) → outcome (refused refusal p) (ws', cs') ≡ whole_into count (judged SUM item) ws cs
+          → (x : Item Fault ℕ) × (Alike x item) × (refused refusal p ≡ fault SUM x)
       go (got sum end) f = absurd (refused-done (ap (λ o. o.answer) f))
       go (stopped what place) f = (stopped what place, both, ap (λ o. o.answer) f)
 
--- ---- `unpack_terms`.
+-- ---- `unpack_by`.
 
 both-refuse : {x : Item Fault ℕ} {all : Item Fault Sum} (ws : List ℕ) (cs : List ℤ) → Alike x all → outcome (fault SUM x) (ws, cs) ≡ held_into (judged SUM all) ws cs
 unfolding held_into
 both-refuse ws cs both = refl
 
-module _ (count : ℕ) (s : List ℕ) (at : ℕ) (ws : List ℕ) (cs : List ℤ) {ws' : List ℕ} {cs' : List ℤ} (r : Answer)
-    (e : outcome (told r) (ws', cs') ≡ whole_into count (judged SUM (read_rest variables count s at)) ws cs) (area : List ℕ) (area-cs : List ℤ) where
-  pub areas-stay : NotDone r → outcome (told r) (area, area-cs) ≡ held_into (judged SUM (read_rest variables count s at)) area area-cs
-  areas-stay key =
-      let stop = whole-refused count s at ws cs r key e in
+module _ (count : ℕ) (s : List ℕ) (at : ℕ) (ws : List ℕ) (cs : List ℤ) {ws' : List ℕ} {cs' : List ℤ} (area : List ℕ) (area-cs : List ℤ) where
+  pub areas-stay : {refusal p : ℕ} → outcome (refused refusal p) (ws', cs') ≡ whole_into count (judged SUM (read_rest variables count s at)) ws cs
+      → outcome (refused refusal p) (area, area-cs) ≡ held_into (judged SUM (read_rest variables count s at)) area area-cs
+  areas-stay e =
+      let stop = whole-refused count s at ws cs e in
       ap (λ (t : Told). outcome t (area, area-cs)) stop.2 ∙ both-refuse area area-cs stop.1
 
-  pub areas-hold : {n : ℕ} → r ≡ Done n → {area' : List ℕ} {area-cs' : List ℤ} → area' ≡ written (take count ws') area → area-cs' ≡ written (take count cs') area-cs
-      → outcome (told r) (area', area-cs') ≡ held_into (judged SUM (read_rest variables count s at)) area area-cs
+  pub areas-hold : {n : ℕ} → outcome (done n) (ws', cs') ≡ whole_into count (judged SUM (read_rest variables count s at)) ws cs → {area' : List ℕ} {area-cs' : List ℤ} → area' ≡ written (take count ws') area → area-cs' ≡ written (take count cs') area-cs
+      → outcome (done n) (area', area-cs') ≡ held_into (judged SUM (read_rest variables count s at)) area area-cs
   unfolding held_into
-  areas-hold key words_are coefficients_are =
-      let whole = whole-done count s at ws cs r key e in
+  areas-hold {n} e words_are coefficients_are =
+      let whole = whole-done count s at ws cs e in
       let t = whole.2 in
-      let says : told r ≡ done (length t.sum) = ap told key ∙ ap done (whole.1 ∙ sym t.many) in
+      let says : done n ≡ done (length t.sum) = ap done (whole.1 ∙ sym t.many) in
       let words = words_are ∙ ap (λ l. written l area) (words-first t t.many).0 in
       let coefficients = coefficients_are ∙ ap (λ l. written l area-cs) (coefficients-first t t.many).0 in
       (λ i. outcome (says i) (words i, coefficients i)) ∙ ap (λ item. held_into (judged SUM item) area area-cs) (sym t.read)
@@ -185,8 +179,8 @@ module _ (bytes ws : List ℕ) (cs : List ℤ) where
     unfolding unpack
     has_room = rw (le-leb most_terms (length ws) words_room, le-leb most_terms (length cs) coefficients_room)
 
-    pub unpack-stops : {x : Item Fault ℕ} → Alike x (read_count bytes 0) → outcome (fault SUM x) (ws, cs) ≡ unpack bytes ws cs
-    unpack-stops {x} a = both-refuse ws cs (subst (Alike x) (sym (whole_split variables bytes)) (alike_then _ a)) ∙ sym has_room
+    pub unpack-stops : {x : Item Fault ℕ} {t : Told} → Alike x (read_count bytes 0) → t ≡ fault SUM x → outcome t (ws, cs) ≡ unpack bytes ws cs
+    unpack-stops {x} a says = ap (λ (t : Told). outcome t (ws, cs)) says ∙ both-refuse ws cs (subst (Alike x) (sym (whole_split variables bytes)) (alike_then _ a)) ∙ sym has_room
 
     pub unpack-rest : {count next : ℕ} → read_count bytes 0 ≡ got count next → held_into (judged SUM (read_rest variables count bytes next)) ws cs ≡ unpack bytes ws cs
     unpack-rest counted = sym (has_room ∙ ap (λ r. held_into (judged SUM r) ws cs) (whole-rest variables bytes counted))

@@ -1,3 +1,4 @@
 -- What contracts of helpers and of private functions name, and no other: no promise of an operation rests on it.
 pub mod Held
 pub mod Arrays
+pub mod Last

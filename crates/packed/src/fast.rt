@@ -1,4 +1,5 @@
 // Terms the fast way: they are copied as they stand, and then judged as packing judges them. Where that finds a fault they are read item by item, which says where it is.
+// By index where a term takes little: zipped, two slices take some ten instructions more for each, as in `sums`.
 ghost use Rattle.std.specs.Prelude.{◌≡◌, [], ◌≤◌, length, take};
 ghost use Rattle.algebra.specs.Limits.{variables};
 ghost use Rattle.numbers.specs.Inside.Read.{item_of};
@@ -6,14 +7,12 @@ ghost use Rattle.packed.specs.ReadSum.{read_terms};
 ghost use Rattle.packed.specs.Inside.Arrays.{taken_into, Copies, Takes};
 ghost use Rattle.packed.specs.Pack.{good_terms};
 
-use crate::{items, reader};
-use algebra::{LARGEST_WEIGHT, Pattern};
+use crate::items;
+use crate::reader::Reader;
+use algebra::{LARGEST_WEIGHT, Pattern, Terms};
 use numbers::Read;
 
-// No pattern has it.
-const LARGEST_WORD: u64 = 18446744073709551615;
-
-// `count` terms as they stand, not judged: a code, and a byte for each exponent, as all good terms have it. It answers the place after them; 0 where they are not like that, and
+// `count` terms as they stand, not judged: a code, and a byte for each exponent, as all good terms have it. It answers the place after them; `None` where they are not like that, and
 // then nothing is said of the places.
 fn copy_terms(
     bytes: &[u8],
@@ -21,46 +20,34 @@ fn copy_terms(
     count: usize,
     patterns: &mut [u64],
     coefficients: &mut [i64],
-) -> usize
+) -> Option<usize>
     requires count_in_bounds { count ≤ length patterns.old }
     requires count_in_bounds_2 { count ≤ length coefficients.old }
     ensures { Copies count bytes.now at result patterns.old coefficients.old patterns.new
         coefficients.new }
 {
-    let mut place = at;
-    let mut k = 0;
-    while k < count {
-        let item = reader::read_item(bytes, place);
-        let Read::Value(c, next) = item else {
-            return 0;
-        };
-        if bytes.len() - next < Pattern::VARIABLES as usize {
-            return 0;
-        }
-        let coefficient = numbers::decode(c);
-        patterns[k] = reader::read_word(bytes, next);
-        coefficients[k] = coefficient;
-        place = next + Pattern::VARIABLES as usize;
-        k += 1;
+    let mut reader = Reader { bytes, at };
+    for k in 0..count {
+        let c = reader.item().ok()?;
+        patterns[k] = reader.word()?;
+        coefficients[k] = numbers::decode(c);
     }
-    place
+    Some(reader.at)
 }
 
 // How many terms are good before the first bad one. Packing judges by it too.
-pub(crate) fn good_terms(patterns: &[u64], coefficients: &[i64], count: usize) -> usize
-    requires count_in_bounds { count ≤ length patterns.now }
-    requires count_in_bounds_2 { count ≤ length coefficients.now }
-    ensures { result ≡ good_terms [] (take count patterns.now) (take count coefficients.now) }
+// Asks that there are as many coefficients as patterns.
+pub(crate) fn good_terms(terms: Terms) -> usize
+    requires { length terms.coefficients.now ≡ length terms.patterns.now }
+    ensures { result ≡ good_terms [] terms.entry.patterns.now terms.entry.coefficients.now }
 {
     let mut weight: u64 = 0;
-    // The degree and the word of the pattern before. At first they are those that any pattern stands after.
+    // The degree and the word of the pattern before. At first they are those that any pattern stands after: no Option, so that one test judges degree and order.
     let mut degree = Pattern::LARGEST_DEGREE;
-    let mut last: u64 = LARGEST_WORD;
-    let mut k = 0;
-    while k < count {
-        let pattern = Pattern(patterns[k]);
-        let coefficient = coefficients[k];
-        let size = numbers::absolute(coefficient);
+    let mut last = u64::MAX;
+    for k in 0..terms.len() {
+        let pattern = Pattern(terms.patterns[k]);
+        let size = numbers::absolute(terms.coefficients[k]);
         if size == 0 {
             return k;
         }
@@ -79,30 +66,28 @@ pub(crate) fn good_terms(patterns: &[u64], coefficients: &[i64], count: usize) -
         weight += size;
         degree = total;
         last = pattern.0;
-        k += 1;
     }
-    count
+    terms.len()
 }
 
-// The terms that `copy_terms` copies, if all of them are good; else it answers 0, and nothing is said of the places.
-// The answer is a number: an enum would go through memory, which takes longer than to read a term.
+// The terms that `copy_terms` copies, if all of them are good; else nothing is said of the places.
 pub(crate) fn take_good(
     bytes: &[u8],
     at: usize,
     count: usize,
     patterns: &mut [u64],
     coefficients: &mut [i64],
-) -> usize
+) -> Option<usize>
     requires count_in_bounds { count ≤ length patterns.old }
     requires count_in_bounds_2 { count ≤ length coefficients.old }
     ensures { Takes count bytes.now at result patterns.old coefficients.old patterns.new
         coefficients.new }
 {
-    let end = copy_terms(bytes, at, count, patterns, coefficients);
-    if good_terms(patterns, coefficients, count) < count {
-        return 0;
+    let end = copy_terms(bytes, at, count, patterns, coefficients)?;
+    if good_terms(Terms::first(count, patterns, coefficients)) < count {
+        return None;
     }
-    end
+    Some(end)
 }
 
 // `count` terms at a place of the bytes, into the first places of two arrays.
@@ -118,9 +103,8 @@ pub(crate) fn take(
     ensures { (item_of result, patterns.new, coefficients.new)
         ≡ taken_into count (read_terms variables count [] bytes.now at) patterns.old coefficients.old }
 {
-    let end = take_good(bytes, at, count, patterns, coefficients);
-    if end == 0 {
-        return items::take_each(bytes, at, count, patterns, coefficients);
+    match take_good(bytes, at, count, patterns, coefficients) {
+        Some(end) => Ok((count as u64, end)),
+        None => items::take_each(bytes, at, count, patterns, coefficients),
     }
-    Read::Value(count as u64, end)
 }

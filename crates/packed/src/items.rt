@@ -1,37 +1,34 @@
-// Terms read item by item: the first fault is found where it stands. Each item's answer is taken apart, and a refusal is returned at once.
-ghost use Rattle.std.specs.Prelude.{◌≡◌, ◌||◌, [], ◌≤◌, eqb, length};
+// Terms read item by item: the first fault is found where it stands. A fault that is met is returned at once.
+// Bytes and a place are two parameters: lent a reader, each contract would have to say that its bytes stay. Two areas and a count go together: by one length each, two lengths would have to be said equal.
+ghost use Rattle.std.specs.Prelude.{◌≡◌, [], ◌≤◌, length};
 ghost use Rattle.algebra.specs.Limits.{variables, largest_weight};
-ghost use Rattle.algebra.specs.Pattern.{order};
-ghost use Rattle.algebra.specs.Sum.{is_before};
 ghost use Rattle.algebra.specs.Word.{exponents, Valid};
 ghost use Rattle.numbers.specs.Item.{mapped};
 ghost use Rattle.numbers.specs.Code.{code};
 ghost use Rattle.numbers.specs.Inside.Read.{item_of};
 ghost use Rattle.packed.specs.ReadSum.{read_coefficient, read_exponents, read_terms};
+ghost use Rattle.packed.specs.Inside.Last.{LastValid, may_follow};
 ghost use Rattle.packed.specs.Inside.Arrays.{word_for, Holds, taken_into};
 
-use crate::reader;
-use algebra::{LARGEST_WEIGHT, Pattern, Standing};
-use answers::areas;
-use numbers::Read;
+use crate::reader::Reader;
+use algebra::{LARGEST_WEIGHT, Pattern};
+use numbers::{Fault, Read};
 
 // A coefficient, judged at once: `weight` is that of the terms before. The value is its code.
 fn read_coefficient(bytes: &[u8], at: usize, weight: u64) -> Read
     requires { weight ≤ largest_weight }
     ensures { item_of result ≡ mapped code (read_coefficient weight bytes.now at) }
 {
-    let item = reader::read_item(bytes, at);
-    let Read::Value(c, next) = item else {
-        return item;
-    };
+    let mut reader = Reader { bytes, at };
+    let c = reader.item()?;
     let size = numbers::absolute(numbers::decode(c));
     if size == 0 {
-        return Read::Bad(at);
+        return Err(Fault::Bad(at));
     }
     if size > LARGEST_WEIGHT - weight {
-        return Read::Bad(at);
+        return Err(Fault::Bad(at));
     }
-    Read::Value(c, next)
+    Ok((c, reader.at))
 }
 
 // The powers of the first variables, so many as `powers` says; the others are 0. The value is the pattern's word.
@@ -41,41 +38,32 @@ fn read_exponents(bytes: &[u8], at: usize, powers: u64) -> Read
 {
     let mut pattern = Pattern::empty();
     let mut degree: u64 = 0;
-    let mut place = at;
-    let mut v: u64 = 0;
-    while v < powers {
-        let item = reader::read_item(bytes, place);
-        let Read::Value(e, next) = item else {
-            return item;
-        };
+    let mut reader = Reader { bytes, at };
+    for v in 0..powers {
+        let place = reader.at;
+        let e = reader.item()?;
         if e > Pattern::LARGEST_DEGREE - degree {
-            return Read::Bad(place);
+            return Err(Fault::Bad(place));
         }
         pattern = pattern.product(Pattern::power(v, e));
         degree += e;
-        place = next;
-        v += 1;
     }
-    Read::Value(pattern.0, place)
+    Ok((pattern.0, reader.at))
 }
 
-// Whether a pattern stands strictly after the one before. The first of all, k = 0, has none before it.
-fn stands_after(k: usize, last: Pattern, pattern: Pattern) -> bool
-    requires valid { Valid last.0 }
+// Whether a pattern stands strictly after the one before. The first of all has none before it.
+fn stands_after(last: Option<Pattern>, pattern: Pattern) -> bool
+    requires valid { LastValid last }
     requires valid_2 { Valid pattern.0 }
-    ensures { result ≡ (eqb k 0 || is_before (order (exponents last.0) (exponents pattern.0))) }
+    ensures { result ≡ may_follow last (exponents pattern.0) }
 {
-    if k == 0 {
-        return true;
-    }
-    match last.compare(pattern) {
-        Standing::Before => true,
-        Standing::Same => false,
-        Standing::After => false,
+    match last {
+        Some(before) => before.compare(pattern).is_lt(),
+        None => true,
     }
 }
 
-// `count` terms of `powers` exponents each, into the first places of two arrays. What a refusal leaves in these places is not said: the arrays are the callers' own.
+// `count` terms of `powers` exponents each, into the first places of two arrays. What a refusal leaves in these places is not said: `take_each` clears them.
 fn take_terms(
     bytes: &[u8],
     at: usize,
@@ -93,30 +81,22 @@ fn take_terms(
 {
     let mut place = at;
     let mut weight: u64 = 0;
-    let mut last = Pattern::empty();
-    let mut k = 0;
-    while k < count {
-        let first = read_coefficient(bytes, place, weight);
-        let Read::Value(c, next) = first else {
-            return first;
-        };
-        let rest = read_exponents(bytes, next, powers);
-        let Read::Value(w, end) = rest else {
-            return rest;
-        };
+    let mut last = None;
+    for k in 0..count {
+        let (c, next) = read_coefficient(bytes, place, weight)?;
+        let (w, end) = read_exponents(bytes, next, powers)?;
         let pattern = Pattern(w);
-        if !stands_after(k, last, pattern) {
-            return Read::Bad(place);
+        if !stands_after(last, pattern) {
+            return Err(Fault::Bad(place));
         }
         let coefficient = numbers::decode(c);
         patterns[k] = w;
         coefficients[k] = coefficient;
         weight += numbers::absolute(coefficient);
-        last = pattern;
+        last = Some(pattern);
         place = end;
-        k += 1;
     }
-    Read::Value(count as u64, place)
+    Ok((count as u64, place))
 }
 
 // The same for as many exponents as there are variables; and on a fault the places are cleared.
@@ -133,10 +113,9 @@ pub(crate) fn take_each(
         ≡ taken_into count (read_terms variables count [] bytes.now at) patterns.old coefficients.old }
 {
     let item = take_terms(bytes, at, Pattern::VARIABLES, count, patterns, coefficients);
-    let Read::Value(_, _) = item else {
-        areas::clear_words(patterns, count);
-        areas::clear_coefficients(coefficients, count);
-        return item;
-    };
+    if item.is_err() {
+        patterns[..count].fill(0);
+        coefficients[..count].fill(0);
+    }
     item
 }

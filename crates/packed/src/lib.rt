@@ -1,8 +1,9 @@
 // Packed sums: read item by item, unpacked into two lent areas, and packed from them.
 // Begin with specs/Packed.antt and specs/ReadSum.antt, then with `unpack` and `pack`. `reader` has the packed reader, through which `items` and `fast` read terms.
+// What is written stays two slices, as C lends it: a struct of `&mut` slices would have to say in each contract where they point.
 #![tactic(auto)]
 
-ghost use Rattle.std.specs.Prelude.{◌≡◌, ◌≤◌, length};
+ghost use Rattle.std.specs.Prelude.{◌≡◌, ◌≤◌, length, IfOk};
 ghost use Rattle.algebra.specs.Limits.{variables, most_terms};
 ghost use Rattle.answers.specs.Refusals.{SUM};
 ghost use Rattle.answers.specs.Answers.{told, outcome};
@@ -15,9 +16,10 @@ ghost use Rattle.packed.specs.Inside.Arrays.{whole_into};
 ghost use Rattle.packed.specs.Unpack.{unpack};
 ghost use Rattle.packed.specs.Pack.{pack};
 
-use algebra::{MOST_TERMS, Pattern};
-use answers::{Answer, Refusal, areas};
-use numbers::Read;
+use algebra::{MOST_TERMS, Pattern, Terms};
+use answers::{Answer, Refusal, Refused};
+use numbers::{Fault, Read};
+use reader::Reader;
 
 mod fast;
 mod items;
@@ -27,23 +29,23 @@ pub mod writer;
 // A term takes ten bytes at most for its coefficient and one for each exponent, the count two.
 pub const MOST_BYTES: usize = (10 + Pattern::VARIABLES as usize) * MOST_TERMS + 2;
 
-// So many terms are few.
+// So many terms are few. Each operation that reads a packed sum chooses by it itself: a public function that is given the rest as a closure has no contract that
+// leaves one outcome.
 pub const FEW_TERMS: usize = 16;
 
 // ---- What other operations read of packed sums.
 
 // The number of terms of a packed sum at a place of the bytes, judged.
 pub fn read_count(bytes: &[u8], at: usize) -> Read
-    ensures { item_of result ≡ read_count bytes.now at }
+    ensures value { item_of result ≡ read_count bytes.now at }
+    ensures few { IfOk result (λ r. r.0 ≤ most_terms) }
 {
-    let item = reader::read_item(bytes, at);
-    let Read::Value(count, _) = item else {
-        return item;
-    };
+    let mut reader = Reader { bytes, at };
+    let count = reader.item()?;
     if count > MOST_TERMS as u64 {
-        return Read::Bad(at);
+        return Err(Fault::Bad(at));
     }
-    item
+    Ok((count, reader.at))
 }
 
 // A packed sum at a place of the bytes, for lists of sums. The value is the number of terms; on a refusal the areas stay.
@@ -54,30 +56,22 @@ pub fn read_sum(bytes: &[u8], at: usize, patterns: &mut [u64], coefficients: &mu
     ensures { (item_of result, patterns.new, coefficients.new)
         ≡ read_into (read_sum variables bytes.now at) patterns.old coefficients.old }
 {
-    let first = read_count(bytes, at);
-    let Read::Value(count, next) = first else {
-        return first;
-    };
+    let (count, next) = read_count(bytes, at)?;
     let n = count as usize;
     let mut own_patterns = [0u64; MOST_TERMS];
     let mut own_coefficients = [0i64; MOST_TERMS];
-    let item = fast::take(bytes, next, n, &mut own_patterns, &mut own_coefficients);
-    let Read::Value(_, _) = item else {
-        return item;
-    };
-    areas::copy_words(patterns, &own_patterns, n);
-    areas::copy_coefficients(coefficients, &own_coefficients, n);
-    item
+    let item = fast::take(bytes, next, n, &mut own_patterns, &mut own_coefficients)?;
+    patterns[..n].copy_from_slice(&own_patterns[..n]);
+    coefficients[..n].copy_from_slice(&own_coefficients[..n]);
+    Ok(item)
 }
 
-// A packed sum that was cut or is damaged is refused with SUM at its place. (A value is none of the two, and is not passed here.)
-pub fn refused(item: Read) -> Answer
-    ensures { told result ≡ fault SUM (item_of item) }
+// A packed sum that was cut or is damaged is refused with SUM at its place. (It is no `From`: both types are other crates'.)
+pub fn refused(met: Fault) -> Refused
+    ensures { told (Err result) ≡ fault SUM (item_of (Err met)) }
 {
-    match item {
-        Read::Value(_, next) => Answer::Refused(Refusal::Sum, next),
-        Read::Cut(place) => Answer::Refused(Refusal::Sum, place),
-        Read::Bad(place) => Answer::Refused(Refusal::Sum, place),
+    match met {
+        Fault::Cut(place) | Fault::Bad(place) => Refusal::Sum.at(place),
     }
 }
 
@@ -95,50 +89,43 @@ pub fn take_whole(
     ensures { outcome (told result) (patterns.new, coefficients.new)
         ≡ whole_into count (judged SUM (read_rest variables count bytes.now at)) patterns.old coefficients.old }
 {
-    let good = fast::take_good(bytes, at, count, patterns, coefficients);
-    if good > 0 {
-        if good == bytes.len() {
-            return Answer::Done(count);
+    if let Some(end) = fast::take_good(bytes, at, count, patterns, coefficients) {
+        if end == bytes.len() {
+            return Ok(count);
         }
     }
-    let item = items::take_each(bytes, at, count, patterns, coefficients);
-    let Read::Value(_, end) = item else {
-        return refused(item);
-    };
+    let (_, end) = items::take_each(bytes, at, count, patterns, coefficients).map_err(refused)?;
     if end < bytes.len() {
-        areas::clear_words(patterns, count);
-        areas::clear_coefficients(coefficients, count);
-        return Answer::Refused(Refusal::Sum, end);
+        patterns[..count].fill(0);
+        coefficients[..count].fill(0);
+        return Err(Refusal::Sum.at(end));
     }
-    Answer::Done(count)
+    Ok(count)
 }
 
 // ---- The operations.
 
-// The terms go through two arrays of the caller's own: the lent areas are written when nothing can be refused any more.
-fn unpack_terms(
+// The terms go through two arrays of N places: the lent areas are written when nothing can be refused any more.
+fn unpack_by<const N: usize>(
     bytes: &[u8],
     at: usize,
     count: usize,
-    own_patterns: &mut [u64],
-    own_coefficients: &mut [i64],
     patterns: &mut [u64],
     coefficients: &mut [i64],
 ) -> Answer
-    requires count_in_bounds { count ≤ length own_patterns.old }
-    requires count_in_bounds_2 { count ≤ length own_coefficients.old }
-    requires count_in_bounds_3 { count ≤ length patterns.old }
-    requires count_in_bounds_4 { count ≤ length coefficients.old }
+    requires places { N ≤ most_terms }
+    requires count_in_bounds { count ≤ N }
+    requires count_in_bounds_2 { count ≤ length patterns.old }
+    requires count_in_bounds_3 { count ≤ length coefficients.old }
     ensures { outcome (told result) (patterns.new, coefficients.new)
         ≡ held_into (judged SUM (read_rest variables count bytes.now at)) patterns.old coefficients.old }
 {
-    let taken = take_whole(bytes, at, count, own_patterns, own_coefficients);
-    let Answer::Done(_) = taken else {
-        return taken;
-    };
-    areas::copy_words(patterns, own_patterns, count);
-    areas::copy_coefficients(coefficients, own_coefficients, count);
-    taken
+    let mut own_patterns = [0u64; N];
+    let mut own_coefficients = [0i64; N];
+    let n = take_whole(bytes, at, count, &mut own_patterns, &mut own_coefficients)?;
+    patterns[..count].copy_from_slice(&own_patterns[..count]);
+    coefficients[..count].copy_from_slice(&own_coefficients[..count]);
+    Ok(n)
 }
 
 // Few terms go through small arrays: to clear large ones would take longer than to read the terms.
@@ -147,40 +134,18 @@ pub fn unpack(bytes: &[u8], patterns: &mut [u64], coefficients: &mut [i64]) -> A
         ≡ unpack bytes.now patterns.old coefficients.old }
 {
     if patterns.len() < MOST_TERMS {
-        return Answer::Refused(Refusal::Room, 0);
+        return Err(Refusal::Room.at(0));
     }
     if coefficients.len() < MOST_TERMS {
-        return Answer::Refused(Refusal::Room, 0);
+        return Err(Refusal::Room.at(0));
     }
-    let first = read_count(bytes, 0);
-    let Read::Value(number, next) = first else {
-        return refused(first);
-    };
+    let (number, next) = read_count(bytes, 0).map_err(refused)?;
     let n = number as usize;
     if n <= FEW_TERMS {
-        let mut few = [0u64; FEW_TERMS];
-        let mut few_coefficients = [0i64; FEW_TERMS];
-        return unpack_terms(
-            bytes,
-            next,
-            n,
-            &mut few,
-            &mut few_coefficients,
-            patterns,
-            coefficients,
-        );
+        unpack_by::<FEW_TERMS>(bytes, next, n, patterns, coefficients)
+    } else {
+        unpack_by::<MOST_TERMS>(bytes, next, n, patterns, coefficients)
     }
-    let mut own = [0u64; MOST_TERMS];
-    let mut own_coefficients = [0i64; MOST_TERMS];
-    unpack_terms(
-        bytes,
-        next,
-        n,
-        &mut own,
-        &mut own_coefficients,
-        patterns,
-        coefficients,
-    )
 }
 
 // Every term is looked at before the first byte is written.
@@ -188,21 +153,22 @@ pub fn pack(count: usize, patterns: &[u64], coefficients: &[i64], res: &mut [u8]
     ensures { outcome (told result) res.new ≡ pack count patterns.now coefficients.now res.old }
 {
     if res.len() < MOST_BYTES {
-        return Answer::Refused(Refusal::Room, 0);
+        return Err(Refusal::Room.at(0));
     }
     if count > MOST_TERMS {
-        return Answer::Refused(Refusal::Shape, 0);
+        return Err(Refusal::Shape.at(0));
     }
     if count > patterns.len() {
-        return Answer::Refused(Refusal::Shape, 0);
+        return Err(Refusal::Shape.at(0));
     }
     if count > coefficients.len() {
-        return Answer::Refused(Refusal::Shape, 0);
+        return Err(Refusal::Shape.at(0));
     }
-    let good = fast::good_terms(patterns, coefficients, count);
+    let terms = Terms::first(count, patterns, coefficients);
+    let good = fast::good_terms(terms);
     if good < count {
-        return Answer::Refused(Refusal::Sum, good);
+        return Err(Refusal::Sum.at(good));
     }
-    let length = writer::write_sum(res, 0, patterns, coefficients, count);
-    Answer::Done(length)
+    let length = writer::write_sum(res, 0, terms);
+    Ok(length)
 }

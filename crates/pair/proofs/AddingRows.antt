@@ -19,7 +19,7 @@ use Rattle.algebra.proofs.Sums.Results.{pairs-weight}
 use Rattle.sums.specs.Formed.{Formed, Formed.formed, within, with_row}
 use Rattle.sums.specs.Rows.{Stands, Added, running_into, running_words, CanAddProduct}
 use Rattle.sums.proofs.Answering.{added-formed}
-use Rattle.sums.proofs.Fronts.{Placed, placed-inside, placed-is, placed-held, held-placed}
+use Rattle.sums.proofs.Fronts.{Placed, placed-is, placed-held, held-placed}
 use Rattle.sums.proofs.RunningWords.{running-many, product-added}
 use Rattle.pair.specs.Rows.{part_at, rows_at, CanAddRows}
 use Rattle.pair.proofs.TakingPart.{part_placed}
@@ -47,7 +47,7 @@ pairs-high m (u ∷ s) t first second all =
     let later : degree_of s + degree_of t ≤ m = pairs-high m s t (omega arith) second (omega arith) in
     omega arith
 
--- ---- The part, once it stands in two arrays; the code lends their places from 0 to m, which are `count` many.
+-- ---- The part, once it stands in two arrays.
 
 pub record Taken (v k : ℕ) (fp : List ℕ) (fc : List ℤ) (wp : List ℕ) (wc : List ℤ) (gr : List ℕ) (gc : List ℤ) (n m : ℕ) (pp : List ℕ) (pc : List ℤ) : Type 0 where
   pub asked : CanAddRows v k fp fc wp wc (running_words gr) gc n
@@ -62,9 +62,6 @@ module _ {v k : ℕ} {fp : List ℕ} {fc : List ℤ} {wp : List ℕ} {wc : List 
 
   placed : Placed part m pp pc
   placed = part_placed v k p.asked.known p.asked.into p.stands
-
-  pub part-inside : (m ≤ length pp) × (m ≤ length pc)
-  part-inside = placed-inside placed
 
   -- nothing to add
   pub none-added : m ≡ 0 → Added (with_row (rows_at v k (terms wp wc) (terms fp fc)) (first_terms n (running_words gr) gc)) (formed n) (running_words gr) gc
@@ -82,25 +79,21 @@ module _ {v k : ℕ} {fp : List ℕ} {fc : List ℤ} {wp : List ℕ} {wc : List 
       nothing [] e = refl
       nothing (t ∷ l) e = absurd (omega arith)
 
-  module _ {count : ℕ} (all-lent : count ≡ m) where
-    part-lent : terms (take count pp) (take count pc) ≡ part
-    part-lent = rw all-lent (placed-is placed)
+  -- what `add_product` requires
+  pub can-add : CanAddProduct gr gc n (take m pp) (take m pc) wp wc
+  can-add = record {
+    running = p.asked.running;
+    few = p.asked.few;
+    first = placed-held placed;
+    second = p.asked.factor;
+    low = rw (placed-is placed) (pairs-high largest_degree part F placed.holdable.low p.asked.factor.low p.asked.low);
+    light = rw (placed-is placed, ← pairs-weight part F) p.asked.light;
+    words_room = omega (arith, p.asked.words_room, running-many gr);
+    coefficients_room = omega (arith, p.asked.coefficients_room);
+  }
 
-    -- what `add_product` requires
-    pub can-add : CanAddProduct gr gc n (take count pp) (take count pc) wp wc
-    can-add = record {
-      running = p.asked.running;
-      few = p.asked.few;
-      first = rw all-lent (placed-held placed);
-      second = p.asked.factor;
-      low = rw part-lent (pairs-high largest_degree part F placed.holdable.low p.asked.factor.low p.asked.low);
-      light = rw (part-lent, ← pairs-weight part F) p.asked.light;
-      words_room = omega (arith, p.asked.words_room, running-many gr);
-      coefficients_room = omega (arith, p.asked.coefficients_room);
-    }
-
-    -- and what it answers: the rows are added
-    pub rows-added : (ks₀ : List ℕ) (cs₀ : List ℤ) {answer : Formed ℕ} (gr' : List ℕ) {gc' : List ℤ}
-        → (answer, gr', gc') ≡ running_into (with_row (pairs (terms (take count pp) (take count pc)) (terms wp wc)) (first_terms n (running_words gr) gc)) ks₀ cs₀
-        → Added (with_row (rows_at v k (terms wp wc) (terms fp fc)) (first_terms n (running_words gr) gc)) answer (running_words gr') gc'
-    rows-added ks₀ cs₀ gr' told = rw part-lent at (product-added can-add ks₀ cs₀ gr' told)
+  -- and what it answers: the rows are added
+  pub rows-added : (ks₀ : List ℕ) (cs₀ : List ℤ) {answer : Formed ℕ} (gr' : List ℕ) {gc' : List ℤ}
+      → (answer, gr', gc') ≡ running_into (with_row (pairs (terms (take m pp) (take m pc)) (terms wp wc)) (first_terms n (running_words gr) gc)) ks₀ cs₀
+      → Added (with_row (rows_at v k (terms wp wc) (terms fp fc)) (first_terms n (running_words gr) gc)) answer (running_words gr') gc'
+  rows-added ks₀ cs₀ gr' told = rw (placed-is placed) at (product-added can-add ks₀ cs₀ gr' told)

@@ -10,22 +10,18 @@ use Rattle.algebra.specs.Sum.{Sum}
 use Rattle.algebra.specs.Held.{words_of, coefficients_of}
 use Rattle.answers.specs.Areas.{written}
 use Rattle.answers.proofs.Writes.{written-front}
-use Rattle.sums.specs.Formed.{formed_of, Formed.formed, within, formed_into}
-use Rattle.sums.specs.declared.Formed as declared
-use Rattle.sums.specs.declared.Formed.TheVariants.{Terms}
-use Rattle.sums.proofs.Refusing.{NoTerms}
+use Rattle.sums.specs.Formed.{formed_of, Formed.formed, Formed.over, within, formed_into}
+use Rattle.std.specs.Prelude.{Option, Some, None}
 use Rattle.sums.proofs.Forming.{within-yes}
 use Rattle.sums.proofs.Answering.{Known, given, refused, over-into}
 
-module _ (spread : ℕ) (s : Sum) (ws₀ : List ℕ) (cs₀ : List ℤ) {ws : List ℕ} {cs : List ℤ} (a : declared.Formed)
+module _ (spread : ℕ) (s : Sum) (ws₀ : List ℕ) (cs₀ : List ℤ) {ws : List ℕ} {cs : List ℤ} (a : Option ℕ)
     (told : (formed_of a, ws, cs) ≡ formed_into (within spread s) ws₀ cs₀) where
   -- nothing is copied
-  pub copy-stops : NoTerms a → (ps : List ℕ) (ds : List ℤ) → (formed_of a, ps, ds) ≡ formed_into (within spread s) ps ds
-  copy-stops key ps ds =
-      let no = refused spread s ws₀ cs₀ ws cs a key told in
-      over-into spread s ps ds a no.0 no.1
+  pub copy-stops : a ≡ None → (ps : List ℕ) (ds : List ℤ) → (over, ps, ds) ≡ formed_into (within spread s) ps ds
+  copy-stops none ps ds = over-into spread s ps ds (refused spread s ws₀ cs₀ ws cs a none told)
 
-  module _ {n : ℕ} (is : a ≡ Terms n) where
+  module _ {n : ℕ} (is : a ≡ Some n) where
     have : Known spread s ws₀ cs₀ ws cs n
     have = given spread s ws₀ cs₀ ws cs a is told
 

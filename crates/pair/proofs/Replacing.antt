@@ -23,11 +23,9 @@ use Rattle.algebra.proofs.Sums.Results.{unit-integer, power-degree, power-weight
 use Rattle.algebra.proofs.Sums.Substitutes.{pair-weights}
 use Rattle.answers.specs.Areas.{written}
 use Rattle.sums.specs.Asked as Asked
-use Rattle.sums.specs.Formed.{Formed, formed_of, Formed.formed, Formed.over, within, with_row, product_of, formed_into}
+use Rattle.sums.specs.Formed.{formed_of, Formed.formed, Formed.over, within, with_row, product_of, formed_into}
 use Rattle.sums.specs.Rows.{Stands, Added}
-use Rattle.sums.specs.declared.Formed as declared
-use Rattle.sums.specs.declared.Formed.TheVariants.{Terms}
-use Rattle.sums.proofs.Refusing.{NoTerms}
+use Rattle.std.specs.Prelude.{Option, Some, None}
 use Rattle.sums.proofs.Holding.{Holdable, holdable}
 use Rattle.sums.proofs.Forming.{within-yes}
 use Rattle.sums.proofs.Answering.{number-refused, added-given, given, refused, over-into}
@@ -45,13 +43,9 @@ use Rattle.pair.proofs.ByPower.{rows_long, rows_to, all-collected, all-spread, t
 
 -- ---- A pair that is given, and allowed.
 
--- the answer, and the two areas that are lent, are what the pair gives
-abbrev Tells : ℕ → Sum → Sum → declared.Formed → List ℕ → List ℤ → Type 0
-Tells v S s r ps ds = (formed_of r, ps, ds) ≡ formed_into (pair_of v S s) ps ds
-
--- a refusal on the way is handed on
-abbrev Stops : ℕ → Sum → Sum → declared.Formed → Type 0
-Stops v S s r = NoTerms r → (ps : List ℕ) (ds : List ℤ) → Tells v S s r ps ds
+-- the pair is refused: the answer is none, and the two areas that are lent stay
+abbrev Refuses : ℕ → Sum → Sum → Type 0
+Refuses v S s = (ps : List ℕ) (ds : List ℤ) → (over, ps, ds) ≡ formed_into (pair_of v S s) ps ds
 
 module _ {v : ℕ} {sp : List ℕ} {sc : List ℤ} {fp : List ℕ} {fc : List ℤ} (g : CanPut v sp sc fp fc) (a : Allowed v sp sc fp fc) where
   abbrev S : Sum
@@ -94,21 +88,20 @@ module _ {v : ℕ} {sp : List ℕ} {sc : List ℤ} {fp : List ℕ} {fc : List �
       }
 
   -- what is refused on the way
-  module _ (r : declared.Formed) (is : formed_of r ≡ over) (ps : List ℕ) (ds : List ℤ) where
-    wide : most_terms < pair_spread variables v S s → Tells v S s r ps ds
-    unfolding pair_of
-    wide many = over-into (pair_spread variables v S s) (substitute variables v S s) ps ds r is many
+  wide : most_terms < pair_spread variables v S s → Refuses v S s
+  unfolding pair_of
+  wide many ps ds = over-into (pair_spread variables v S s) (substitute variables v S s) ps ds many
 
-    wide_rows : (k : ℕ) → k ≤ largest_power v s → most_terms < spread (to k) → Tells v S s r ps ds
-    wide_rows k inside many =
-        let most = le-max_right (power_spread variables S (largest_power v s)) (spread (pair_rows variables v S s)) in
-        wide (unfold pair_spread in omega (arith, to-spread variables v S s k inside))
+  wide_rows : (k : ℕ) → k ≤ largest_power v s → most_terms < spread (to k) → Refuses v S s
+  wide_rows k inside many =
+      let most = le-max_right (power_spread variables S (largest_power v s)) (spread (pair_rows variables v S s)) in
+      wide (unfold pair_spread in omega (arith, to-spread variables v S s k inside))
 
-    wide-power : (k : ℕ) → k < largest_power v s → most_terms < product_spread (power variables S k) S → Tells v S s r ps ds
-    wide-power k inside many =
-        let most = le-max_left (power_spread variables S (largest_power v s)) (spread (pair_rows variables v S s)) in
-        let rises = spread-rises variables S (k + 1) (largest_power v s) (omega arith) (omega arith) in
-        wide (unfold pair_spread in omega (arith, step-judged variables S k, (holdable g.put.held).few))
+  wide-power : (k : ℕ) → k < largest_power v s → most_terms < product_spread (power variables S k) S → Refuses v S s
+  wide-power k inside many =
+      let most = le-max_left (power_spread variables S (largest_power v s)) (spread (pair_rows variables v S s)) in
+      let rises = spread-rises variables S (k + 1) (largest_power v s) (omega arith) (omega arith) in
+      wide (unfold pair_spread in omega (arith, step-judged variables S k, (holdable g.put.held).few))
 
 -- ---- The loop, where it begins: the power k and its rows stand.
 
@@ -146,19 +139,21 @@ pub record Joining (v largest : ℕ) (sp : List ℕ) (sc : List ℤ) (fp : List 
   pub coefficients_room : most_terms + most_terms ≡ length gc
 
 -- the power 0 is 1
-first-power : (S : Sum) {ws : List ℕ} {cs : List ℤ} (ws₀ : List ℕ) (cs₀ : List ℤ) {answer : Formed ℕ}
-    → (answer, ws, cs) ≡ formed_into (formed (integer variables (pos 1))) ws₀ cs₀ → most_terms ≡ length ws → most_terms ≡ length cs
-    → Front (power variables S 0) ws cs 1
+first-power : (S : Sum) {ws : List ℕ} {cs : List ℤ} (ws₀ : List ℕ) (cs₀ : List ℤ) {n : ℕ}
+    → (formed n, ws, cs) ≡ formed_into (formed (integer variables (pos 1))) ws₀ cs₀ → most_terms ≡ length ws → most_terms ≡ length cs
+    → Front (power variables S 0) ws cs n
 unfolding formed_into power
-first-power S ws₀ cs₀ told words_room coefficients_room =
+first-power S ws₀ cs₀ {n} told words_room coefficients_room =
     let is = unit-integer variables in
-    front-written ws₀ cs₀ (ap (λ x. x.1) told ∙ ap (λ s. written (words_of s) ws₀) is) (ap (λ x. x.2) told ∙ ap (λ s. written (coefficients_of s) cs₀) is) refl
-    unit-holdable words_room coefficients_room
+    let number : formed n ≡ formed (length (integer variables (pos 1))) = ap (λ x. x.0) told in
+    let many : length (integer variables (pos 1)) ≡ n = cc in
+    front-written ws₀ cs₀ (ap (λ x. x.1) told ∙ ap (λ s. written (words_of s) ws₀) is) (ap (λ x. x.2) told ∙ ap (λ s. written (coefficients_of s) cs₀) is)
+    (ap length (sym is) ∙ many) unit-holdable words_room coefficients_room
 
 pub start : {v largest : ℕ} {sp : List ℕ} {sc : List ℤ} {fp : List ℕ} {fc : List ℤ} {gp : List ℕ} {gc : List ℤ} {all : ℕ} (wp₀ : List ℕ) (wc₀ : List ℤ) {wp : List ℕ} {wc : List ℤ}
     → CanPut v sp sc fp fc → Allowed v sp sc fp fc → largest ≡ largest_power v (terms fp fc) → Stands (part_at v 0 (terms fp fc)) all gp gc → most_terms + most_terms ≡ length gp → most_terms + most_terms ≡ length gc
-    → {answer : Formed ℕ} → (answer, wp, wc) ≡ formed_into (formed (integer variables (pos 1))) wp₀ wc₀ → most_terms ≡ length wp → most_terms ≡ length wc
-    → Putting v largest sp sc fp fc gp gc wp wc 1 all 0
+    → {n : ℕ} → (formed n, wp, wc) ≡ formed_into (formed (integer variables (pos 1))) wp₀ wc₀ → most_terms ≡ length wp → most_terms ≡ length wc
+    → Putting v largest sp sc fp fc gp gc wp wc n all 0
 unfolding power_spread rows_to power
 start {v} {sp = sp} {sc} {fp} {fc} wp₀ wc₀ g a largest_is stands words_room coefficients_room told power-words-room power-coefficients-room =
     let held = part-holdable v 0 g.known (holdable g.into.held) in
@@ -189,56 +184,49 @@ module _ {v largest : ℕ} {sp : List ℕ} {sc : List ℤ} {fp : List ℕ} {fc :
   within-largest : k ≤ largest_power v (terms fp fc)
   within-largest = omega (arith, j.inside, j.largest_is)
 
-  -- the code lends the places from 0 to n, which are `count` many
-  module _ {count : ℕ} (all-lent : count ≡ n) where
-    lent : first_terms count wp wc ≡ power variables (terms sp sc) k
-    lent = ap (λ (i : ℕ). first_terms i wp wc) all-lent ∙ front-is j.raised
+  pub can-add : CanAddRows v k fp fc (take n wp) (take n wc) gp gc all
+  can-add = record {
+    known = j.given_pair.known;
+    into = j.given_pair.into.held;
+    factor = front-held j.raised;
+    running = placed-held j.so_far;
+    few = placed-few j.so_far;
+    low = rw (front-is j.raised) (every-degree largest_degree own (at_low j.given_pair j.allowed k));
+    light = rw (front-is j.raised, placed-is j.so_far)
+        (omega (arith, gather-weight j.before, append-weight own j.before, ap weight j.rows_are, to-light j.given_pair j.allowed k within-largest));
+    words_room = omega (arith, j.words_room);
+    coefficients_room = omega (arith, j.coefficients_room);
+  }
 
-    pub can-add : CanAddRows v k fp fc (take count wp) (take count wc) gp gc all
-    can-add = record {
-      known = j.given_pair.known;
-      into = j.given_pair.into.held;
-      factor = rw all-lent (front-held j.raised);
-      running = placed-held j.so_far;
-      few = placed-few j.so_far;
-      low = rw lent (every-degree largest_degree own (at_low j.given_pair j.allowed k));
-      light = rw (lent, placed-is j.so_far)
-          (omega (arith, gather-weight j.before, append-weight own j.before, ap weight j.rows_are, to-light j.given_pair j.allowed k within-largest));
-      words_room = omega (arith, j.words_room);
-      coefficients_room = omega (arith, j.coefficients_room);
-    }
+  joined : with_row (rows_at v k (first_terms n wp wc) (terms fp fc)) (first_terms all gp gc) ≡ within (spread whole) (gather whole)
+  unfolding with_row
+  joined =
+      ap₂ (λ F l. with_row (rows_at v k F (terms fp fc)) l) (front-is j.raised) (placed-is j.so_far)
+      ∙ ap₂ within (spread-rest own j.before ∙ ap spread (sym j.rows_are)) (gather-rest own j.before ∙ ap gather (sym j.rows_are))
 
-    joined : with_row (rows_at v k (first_terms count wp wc) (terms fp fc)) (first_terms all gp gc) ≡ within (spread whole) (gather whole)
-    unfolding with_row
-    joined =
-        ap₂ (λ F l. with_row (rows_at v k F (terms fp fc)) l) lent (placed-is j.so_far)
-        ∙ ap₂ within (spread-rest own j.before ∙ ap spread (sym j.rows_are)) (gather-rest own j.before ∙ ap gather (sym j.rows_are))
+  -- what `add_rows` answers
+  module _ {gp' : List ℕ} {gc' : List ℤ} (r : Option ℕ)
+      (told : Added (with_row (rows_at v k (first_terms n wp wc) (terms fp fc)) (first_terms all gp gc)) (formed_of r) gp' gc') where
+    rows_told : Added (within (spread whole) (gather whole)) (formed_of r) gp' gc'
+    rows_told = rw joined at told
 
-    -- what `add_rows` answers
-    module _ {gp' : List ℕ} {gc' : List ℤ} (r : declared.Formed)
-        (told : Added (with_row (rows_at v k (first_terms count wp wc) (terms fp fc)) (first_terms all gp gc)) (formed_of r) gp' gc') where
-      rows_told : Added (within (spread whole) (gather whole)) (formed_of r) gp' gc'
-      rows_told = rw joined at told
+    pub rows-stop : r ≡ None → Refuses v (terms sp sc) (terms fp fc)
+    rows-stop none = wide_rows j.given_pair j.allowed k within-largest (number-refused (spread whole) (gather whole) r none rows_told.number_is)
 
-      pub rows-stop : Stops v (terms sp sc) (terms fp fc) r
-      rows-stop key ps ds =
-          let no = number-refused (spread whole) (gather whole) r key rows_told.number_is in
-          wide_rows j.given_pair j.allowed r no.0 ps ds k within-largest no.1
-
-      pub joins : {together : ℕ} → r ≡ Terms together → length gp' ≡ length gp → length gc' ≡ length gc → Putting v largest sp sc fp fc gp' gc' wp wc n together k
-      joins is same_words same_coefficients =
-          let yes = added-given (spread whole) (gather whole) gp' gc' r is rows_told in
-          record {
-            given_pair = j.given_pair;
-            allowed = j.allowed;
-            largest_is = j.largest_is;
-            inside = j.inside;
-            raised = j.raised;
-            narrow = j.narrow;
-            so_far = record { stands = yes.1; holdable = to-holdable j.given_pair j.allowed k yes.0 };
-            words_room = j.words_room ∙ sym same_words;
-            coefficients_room = j.coefficients_room ∙ sym same_coefficients;
-          }
+    pub joins : {together : ℕ} → r ≡ Some together → length gp' ≡ length gp → length gc' ≡ length gc → Putting v largest sp sc fp fc gp' gc' wp wc n together k
+    joins is same_words same_coefficients =
+        let yes = added-given (spread whole) (gather whole) gp' gc' r is rows_told in
+        record {
+          given_pair = j.given_pair;
+          allowed = j.allowed;
+          largest_is = j.largest_is;
+          inside = j.inside;
+          raised = j.raised;
+          narrow = j.narrow;
+          so_far = record { stands = yes.1; holdable = to-holdable j.given_pair j.allowed k yes.0 };
+          words_room = j.words_room ∙ sym same_words;
+          coefficients_room = j.coefficients_room ∙ sym same_coefficients;
+        }
 
 -- ---- The next power, or the end.
 
@@ -266,17 +254,16 @@ module _ {v largest : ℕ} {sp : List ℕ} {sc : List ℤ} {fp : List ℕ} {fc :
     }
 
     -- what `raise` answers
-    module _ {wp' : List ℕ} {wc' : List ℤ} (r : declared.Formed) (told : (formed_of r, wp', wc') ≡ formed_into (product_of (first_terms n wp wc) (terms sp sc)) wp wc) where
+    module _ {wp' : List ℕ} {wc' : List ℤ} (r : Option ℕ) (told : (formed_of r, wp', wc') ≡ formed_into (product_of (first_terms n wp wc) (terms sp sc)) wp wc) where
       power-told : (formed_of r, wp', wc') ≡ formed_into (within (product_spread raised-so-far base) (raised-so-far ⊗ base)) wp wc
       unfolding product_of
       power-told = told ∙ ap (λ l. formed_into (product_of l base) wp wc) (front-is p.raised)
 
-      pub power-stop : Stops v (terms sp sc) (terms fp fc) r
-      power-stop key ps ds =
-          let no = refused (product_spread raised-so-far base) (raised-so-far ⊗ base) wp wc wp' wc' r key power-told in
-          wide-power p.given_pair p.allowed r no.0 ps ds k more no.1
+      pub power-stop : r ≡ None → Refuses v (terms sp sc) (terms fp fc)
+      power-stop none =
+          wide-power p.given_pair p.allowed k more (refused (product_spread raised-so-far base) (raised-so-far ⊗ base) wp wc wp' wc' r none power-told)
 
-      pub raises : {count : ℕ} → r ≡ Terms count → length wp' ≡ length wp → length wc' ≡ length wc → Joining v largest sp sc fp fc gp gc wp' wc' count all (k + 1)
+      pub raises : {count : ℕ} → r ≡ Some count → length wp' ≡ length wp → length wc' ≡ length wc → Joining v largest sp sc fp fc gp gc wp' wc' count all (k + 1)
       raises is same_words same_coefficients =
           let g = given (product_spread raised-so-far base) (raised-so-far ⊗ base) wp wc wp' wc' r is power-told in
           let next : power variables base (k + 1) ≡ raised-so-far ⊗ base = ap (power variables base) (add-one k) ∙ power-suc variables base k p.given_pair.put.accepted.is_ordered in

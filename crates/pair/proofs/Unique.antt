@@ -17,5 +17,5 @@ pub measure-one : One measure.Learnt
 measure-one k a r r' e e' h h' = measured h h'
 
 -- Refused when tried: the largest power is not formed; the rows of the terms without the variable at every power.
-pub put_one : OneLent put.Learnt {L = TwoAreas} (λ k e. (e.1.1.1.1.1.1.0.now, e.1.1.1.1.1.1.1.0.now))
+pub put_one : OneLent put.Learnt {L = TwoAreas} (λ k e. (e.1.1.1.1.0.now, e.1.1.1.1.1.0.now))
 put_one k a r r' e e' h h' = told-one r r' (same h h')

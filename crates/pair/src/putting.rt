@@ -1,5 +1,6 @@
 // A sum is put for a variable, power by power: the terms without the variable come first, then those with its first power, and so on. Each power is
 // formed once, of the one before. `wp` and `wc` hold the power of the sum that is put, `gr` and `gc` the running sum, which only `sums::rows` opens.
+// What is written to stays two slices, as the areas that C lends and as `sums` writes them; what is only read is `Terms`.
 ghost use Rattle.std.specs.Prelude.{◌≡◌, ◌≤◌, ◌<◌, take};
 ghost use Rattle.algebra.specs.Limits.{variables, most_terms};
 ghost use Rattle.algebra.specs.Substitute.{largest_power};
@@ -13,30 +14,25 @@ ghost use Rattle.pair.specs.Asked.{CanPut, Allowed};
 ghost use Rattle.pair.specs.Formed.{pair_of};
 ghost use Rattle.pair.specs.Rows.{part_at, rows_at, CanAddRows};
 
-use algebra::{MOST_TERMS, Pattern};
-use answers::areas;
-use sums::{Formed, MOST_PLACES, rows};
+use algebra::{MOST_TERMS, Pattern, Terms};
+use sums::{MOST_PLACES, rows};
 
 // The terms with the power k of v, without it: they keep their order. It answers how many they are.
-fn take_part(v: u64, k: u64, fp: &[u64], fc: &[i64], pp: &mut [u64], pc: &mut [i64]) -> usize
-    requires v_lt_variables { v < variables }
-    requires held { Held fp.now fc.now }
-    requires room { Room pp.old pc.old }
-    ensures { Stands (part_at v k (terms fp.now fc.now)) result pp.new pc.new }
+fn take_part(v: u64, k: u64, s: Terms, patterns: &mut [u64], coefficients: &mut [i64]) -> usize
+    requires known { v < variables }
+    requires held { Held s.patterns.now s.coefficients.now }
+    requires room { Room patterns.old coefficients.old }
+    ensures { Stands (part_at v k (terms s.entry.patterns.now s.entry.coefficients.now)) result patterns.new
+        coefficients.new }
 {
+    // What is kept is written to the front: without a heap no adapter collects it.
     let mut count = 0;
-    let mut i = 0;
-    while i < fp.len() {
-        let pattern = Pattern(fp[i]);
+    for (word, c) in s.patterns.iter().zip(s.coefficients) {
+        let pattern = Pattern(*word);
         if pattern.exponent(v) == k {
-            let c = fc[i];
-            let rest = pattern.without(v);
-            pp[count] = rest.0;
-            pc[count] = c;
+            patterns[count] = pattern.without(v).0;
+            coefficients[count] = *c;
             count += 1;
-            i += 1;
-        } else {
-            i += 1;
         }
     }
     count
@@ -47,29 +43,29 @@ fn take_part(v: u64, k: u64, fp: &[u64], fc: &[i64], pp: &mut [u64], pc: &mut [i
 fn add_rows(
     v: u64,
     k: u64,
-    fp: &[u64],
-    fc: &[i64],
-    wp: &[u64],
-    wc: &[i64],
+    s: Terms,
+    power: Terms,
     gr: &mut [u64],
     gc: &mut [i64],
     n: usize,
     pp: &mut [u64],
     pc: &mut [i64],
-) -> Formed
-    requires can_add_rows { CanAddRows v k fp.now fc.now wp.now wc.now (running_words gr.old) gc.old n }
+) -> Option<usize>
+    requires can_add_rows { CanAddRows v k s.patterns.now s.coefficients.now power.patterns.now
+        power.coefficients.now (running_words gr.old) gc.old n }
     requires room { Room pp.old pc.old }
     ensures { Added
         (with_row
-        (rows_at v k (terms wp.now wc.now) (terms fp.now fc.now))
+        (rows_at v k (terms power.entry.patterns.now power.entry.coefficients.now)
+        (terms s.entry.patterns.now s.entry.coefficients.now))
         (first_terms n (running_words gr.old) gc.old))
         (formed_of result) (running_words gr.new) gc.new }
 {
-    let m = take_part(v, k, fp, fc, pp, pc);
+    let m = take_part(v, k, s, pp, pc);
     if m == 0 {
-        return Formed::Terms(n);
+        return Some(n);
     }
-    rows::add_product(gr, gc, n, &pp[0..m], &pc[0..m], wp, wc)
+    rows::add_product(gr, gc, n, Terms::first(m, pp, pc), power)
 }
 
 // The power becomes the next one, which is formed in two areas that are lent to work in.
@@ -77,26 +73,24 @@ fn raise(
     wp: &mut [u64],
     wc: &mut [i64],
     n: usize,
-    sp: &[u64],
-    sc: &[i64],
+    put: Terms,
     patterns: &mut [u64],
     coefficients: &mut [i64],
-) -> Formed
-    requires n_le_most_terms { n ≤ most_terms }
-    requires factors { Factors (take n wp.old) (take n wc.old) sp.now sc.now }
-    requires room { Room wp.old wc.old }
-    requires room_2 { Room patterns.old coefficients.old }
+) -> Option<usize>
+    requires few { n ≤ most_terms }
+    requires factors { Factors (take n wp.old) (take n wc.old) put.patterns.now put.coefficients.now }
+    requires power_room { Room wp.old wc.old }
+    requires room { Room patterns.old coefficients.old }
     ensures { (formed_of result, wp.new, wc.new)
-        ≡ formed_into (product_of (first_terms n wp.old wc.old) (terms sp.now sc.now)) wp.old
-        wc.old }
+        ≡ formed_into
+        (product_of (first_terms n wp.old wc.old) (terms put.entry.patterns.now put.entry.coefficients.now))
+        wp.old wc.old }
 {
-    let formed = sums::product(&wp[0..n], &wc[0..n], sp, sc, patterns, coefficients);
-    let Formed::Terms(count) = formed else {
-        return formed;
-    };
-    areas::copy_words(wp, patterns, count);
-    areas::copy_coefficients(wc, coefficients, count);
-    formed
+    let count = sums::product(Terms::first(n, wp, wc), put, patterns, coefficients)?;
+    prove!(count <= MOST_TERMS);
+    wp[..count].copy_from_slice(&patterns[..count]);
+    wc[..count].copy_from_slice(&coefficients[..count]);
+    Some(count)
 }
 
 // `largest` is the largest power of v. No power above it is formed, since none above it is judged.
@@ -105,20 +99,21 @@ fn raise(
 pub fn put(
     v: u64,
     largest: u64,
-    sp: &[u64],
-    sc: &[i64],
-    fp: &[u64],
-    fc: &[i64],
+    put: Terms,
+    into: Terms,
     patterns: &mut [u64],
     coefficients: &mut [i64],
-) -> Formed
-    requires can_put { CanPut v sp.now sc.now fp.now fc.now }
-    requires allowed { Allowed v sp.now sc.now fp.now fc.now }
-    requires largest_value { largest ≡ largest_power v (terms fp.now fc.now) }
+) -> Option<usize>
+    requires can_put { CanPut v put.patterns.now put.coefficients.now into.patterns.now into.coefficients.now }
+    requires allowed { Allowed v put.patterns.now put.coefficients.now into.patterns.now into.coefficients.now }
+    requires largest_value { largest ≡ largest_power v (terms into.patterns.now into.coefficients.now) }
     requires room { Room patterns.old coefficients.old }
     ensures { (formed_of result, patterns.new, coefficients.new)
-        ≡ formed_into (pair_of v (terms sp.now sc.now) (terms fp.now fc.now)) patterns.old
-        coefficients.old }
+        ≡ formed_into
+        (pair_of v
+        (terms put.entry.patterns.now put.entry.coefficients.now)
+        (terms into.entry.patterns.now into.entry.coefficients.now))
+        patterns.old coefficients.old }
 {
     let mut gr = [0u64; MOST_PLACES];
     let mut gc = [0i64; MOST_PLACES];
@@ -127,35 +122,23 @@ pub fn put(
     let mut pp = [0u64; MOST_TERMS];
     let mut pc = [0i64; MOST_TERMS];
     // The power 0 is 1: the terms without the variable stand as they are.
-    let mut all = take_part(v, 0, fp, fc, &mut pp, &mut pc);
-    rows::begin(&pp[0..all], &pc[0..all], &mut gr, &mut gc);
-    sums::integer(1, &mut wp, &mut wc);
-    let mut n = 1;
-    let mut k = 0;
-    while k < largest {
-        let raised = raise(&mut wp, &mut wc, n, sp, sc, &mut pp, &mut pc);
-        let Formed::Terms(count) = raised else {
-            return raised;
-        };
-        n = count;
-        k += 1;
-        let added = add_rows(
+    let mut all = take_part(v, 0, into, &mut pp, &mut pc);
+    rows::begin(Terms::first(all, &pp, &pc), &mut gr, &mut gc);
+    let mut n = sums::integer(1, &mut wp, &mut wc);
+    for k in 0..largest {
+        n = raise(&mut wp, &mut wc, n, put, &mut pp, &mut pc)?;
+        let power = Terms::first(n, &wp, &wc);
+        all = add_rows(
             v,
-            k,
-            fp,
-            fc,
-            &wp[0..n],
-            &wc[0..n],
+            k + 1,
+            into,
+            power,
             &mut gr,
             &mut gc,
             all,
             &mut pp,
             &mut pc,
-        );
-        let Formed::Terms(together) = added else {
-            return added;
-        };
-        all = together;
+        )?;
     }
-    rows::finish(&gr[0..all], &gc[0..all], patterns, coefficients)
+    Some(rows::finish(Terms::first(all, &gr, &gc), patterns, coefficients))
 }

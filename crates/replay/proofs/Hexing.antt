@@ -1,76 +1,55 @@
--- Numbers written in digits, one after the other.
-use mathlib.Core.Path.{◌≡◌, refl, sym, ap, ◌∙◌, subst}
+-- Numbers in hex digits.
+use mathlib.Core.Path.{◌≡◌, refl, sym, ap, ◌∙◌}
 use mathlib.Core.List.{List, [], ◌∷◌, ◌++◌}
-use Prim.Native.Nat.{ℕ, zero, suc, ◌+◌, ◌*◌, ◌-◌, ◌/◌, ◌%◌, ◌^◌, ◌≤◌, ◌<◌}
+use Prim.Native.Nat.{ℕ, zero, suc, ◌+◌, ◌*◌, ◌-◌, ◌/◌, ◌%◌, ◌^◌, ◌≤◌, ◌<◌, min, max}
 use native.Mathlib.Numerals.{add-one}
 use native.Mathlib.Decide.{dec_lt}
-use native.Mathlib.Nat.{mul-suc, pow-le-pow_right}
+use native.Mathlib.Nat.{mul-suc, pow-succ', pow-le-pow_right}
 use native.Mathlib.Omega.{arith}
-use lib.ListN.{length, get_or, drop, set, take, length-append, drop_of_length-le}
-use lib.Seq.{drop-cons, sets}
+use lib.ListN.{length, get_or, take, length-append}
+use lib.Seq.{sets, length-take-le}
+use Rattle.std.proofs.lemmas.List.{take_more, append-nil}
+use Rattle.std.proofs.lemmas.Grind.{flat_map-append}
+use Rattle.numbers.proofs.Writing.{sets-append}
 use Rattle.io.specs.Digits.{hex_digit_ascii, last_digits, IsDigitCount}
-use Rattle.numbers.proofs.Writing.{Writing, start, next, ended}
-use Rattle.replay.specs.Hex.{hex_digits, in_hex, Writes}
+use Rattle.replay.specs.Hex.{hex_digits, in_hex}
 
-pub digits-length : (base k n : ℕ) → length (last_digits base k n) ≡ k
+-- one digit more of what is read
+module _ (text : List ℕ) (i n d : ℕ) (inside : i < length text) (digit : d < 16) where
+  pub digits-more : take i text ≡ hex_digits i n → get_or text i 0 ≡ hex_digit_ascii d → take (i + 1) text ≡ hex_digits (i + 1) (16 * n + d)
+  unfolding hex_digits
+  digits-more before is =
+      let high : n ≡ (16 * n + d) / 16 = omega arith in
+      let low : d ≡ (16 * n + d) % 16 = omega arith in
+      let more : take (i + 1) text ≡ take i text ++ (hex_digit_ascii d ∷ []) = take_more text i 0 inside ∙ ap (λ (b : ℕ). take i text ++ (b ∷ [])) is in
+      more ∙ ap (λ (l : List ℕ). l ++ (hex_digit_ascii d ∷ [])) before
+      ∙ ap (λ (m : ℕ). hex_digits i m ++ (hex_digit_ascii d ∷ [])) high
+      ∙ ap (λ (m : ℕ). hex_digits i ((16 * n + d) / 16) ++ (hex_digit_ascii m ∷ [])) low
+      ∙ rw add-one refl
+
+-- and the number that they make
+pub bits-more : (n d i : ℕ) → i < 16 → n < 16 ^ i → d < 16 → (16 * n + d < 16 ^ (i + 1)) × (16 * n + d < 2 ^ 64)
+bits-more n d i inside small digit =
+    let next : i + 1 ≡ suc i = omega arith in
+    let more : 16 ^ suc i ≡ 16 * 16 ^ i = pow-succ' 16 i in
+    let short : suc i ≤ 16 = omega arith in
+    let top : 16 ^ suc i ≤ 16 ^ 16 = pow-le-pow_right (omega arith) short in
+    let here : 16 * n + d < 16 ^ suc i = omega (arith, more, small, digit) in
+    (rw next here, omega (arith, here, top))
+
+-- ---- One number, in as many digits as it takes.
+
+digits-length : (base k n : ℕ) → length (last_digits base k n) ≡ k
 digits-length base zero n = refl
 digits-length base (suc k) n =
     omega (arith, length-append (last_digits base k (n / base)) (hex_digit_ascii (n % base) ∷ []), digits-length base k (n / base))
 
-hex-digits-length : (k n : ℕ) → length (hex_digits k n) ≡ k
+hex_digits-length : (k n : ℕ) → length (hex_digits k n) ≡ k
 unfolding hex_digits
-hex-digits-length k n = digits-length 16 k n
-
-hex-length : (k : ℕ) (ns : List ℕ) → length (in_hex k ns) ≡ k * length ns
-unfolding in_hex
-hex-length k [] = omega arith
-hex-length k (n ∷ ns) =
-    omega (arith, length-append (hex_digits k n) (in_hex k ns), hex-digits-length k n, hex-length k ns, mul-suc k (length ns))
-
--- the numbers from place i on
-abbrev pub hex_from : ℕ → List ℕ → ℕ → List ℕ
-hex_from k ns i = in_hex k (drop i ns)
-
-hex-next : (k : ℕ) (ns : List ℕ) (i : ℕ) → i < length ns → hex_from k ns i ≡ hex_digits k (get_or ns i 0) ++ hex_from k ns (i + 1)
-unfolding in_hex
-hex-next k ns i h = rw add-one (ap (in_hex k) (drop-cons ns i 0 h))
-
-hex-none : (k : ℕ) (ns : List ℕ) (i : ℕ) → length ns ≤ i → hex_from k ns i ≡ []
-unfolding in_hex
-hex-none k ns i h = ap (in_hex k) (drop_of_length-le ns h)
-
-module _ (k : ℕ) (ns : List ℕ) where
-  pub hex-start : (area : List ℕ) (at : ℕ) → at + k * length ns ≤ length area → Writing area at (in_hex k ns) area at (hex_from k ns 0)
-  hex-start area at room = start area at (in_hex k ns) (omega (arith, room, hex-length k ns))
-
-  module _ {area₀ : List ℕ} {at : ℕ} {area : List ℕ} {place i : ℕ} (w : Writing area₀ at (in_hex k ns) area place (hex_from k ns i)) where
-    pub hex-room : i < length ns → place + k ≤ length area
-    hex-room h =
-        omega (arith, w.room, ap (length {A = ℕ}) (hex-next k ns i h), length-append (hex_digits k (get_or ns i 0)) (hex_from k ns (i + 1)), hex-digits-length k (get_or ns i 0))
-
-    pub hex-again : (n : ℕ) → n ≡ get_or ns i 0 → i < length ns → {area' : List ℕ} {place' : ℕ} → place' ≡ place + k → area' ≡ sets area place (hex_digits k n)
-        → Writing area₀ at (in_hex k ns) area' place' (hex_from k ns (i + 1))
-    hex-again n is h {area'} {place'} there now =
-        next (hex_digits k n) (hex_from k ns (i + 1)) (hex-next k ns i h ∙ ap (λ (m : ℕ). hex_digits k m ++ hex_from k ns (i + 1)) (sym is)) w now
-        (there ∙ ap (λ (m : ℕ). place + m) (sym (hex-digits-length k n)))
-
-    pub hex-ended : length ns ≤ i → (place ≡ at + k * length ns) × (area ≡ sets area₀ at (in_hex k ns))
-    hex-ended h =
-        let ends = ended (hex-none k ns i h) w in
-        (ends.0 ∙ ap (λ (m : ℕ). at + m) (hex-length k ns), ends.1)
-
--- the two digits of a byte
-pub two-set : (area : List ℕ) (place b h l : ℕ) → b < 256 → h ≡ hex_digit_ascii (b / 16) → l ≡ hex_digit_ascii (b % 16)
-    → set (set area place h) (place + 1) l ≡ sets area place (hex_digits 2 b)
-unfolding hex_digits
-two-set area place b h l byte high low =
-    let small : b / 16 ≡ (b / 16) % 16 = omega arith in
-    rw (add-one, high ∙ ap hex_digit_ascii small, low) refl
-
--- ---- One number, in as many digits as it takes.
+hex_digits-length k n = digits-length 16 k n
 
 -- no more than are enough for it
-pub few-digits : (base least n k top : ℕ) → IsDigitCount base least n k → 0 < base → least ≤ top → n < base ^ top → k ≤ top
+few-digits : (base least n k top : ℕ) → IsDigitCount base least n k → 0 < base → least ≤ top → n < base ^ top → k ≤ top
 few-digits base least n k top fewest some enough small = go (dec_lt top k)
   where
     go : Dec (top < k) → k ≤ top
@@ -79,21 +58,44 @@ few-digits base least n k top fewest some enough small = go (dec_lt top k)
         absurd (omega (arith, fewest.2 (omega arith), pow-le-pow_right some before))
     go (no h) = omega (arith, h)
 
-pub writes-digits : (base least n : ℕ) (area₀ : List ℕ) (at k : ℕ) (text : List ℕ) {r : ℕ} {area : List ℕ} → IsDigitCount base least n k → take k text ≡ last_digits base k n
-    → r ≡ at + length (take k text) → area ≡ sets area₀ at (take k text) → Writes base least n area₀ at r area
-writes-digits base least n area₀ at k text {r} {area} fewest is there now =
-    let many : length (take k text) ≡ k = ap (length {A = ℕ}) is ∙ digits-length base k n in
-    let span : k ≡ r - at = omega (arith, there, many) in
-    record {
-      from = omega (arith, there);
-      fewest = subst (λ (m : ℕ). IsDigitCount base least n m) span fewest;
-      stands = now ∙ ap (sets area₀ at) (is ∙ ap (λ (m : ℕ). last_digits base m n) span);
-    }
+-- a value takes as many digits as it is asked for, as there are enough
+pub exact-digits : (n k least : ℕ) → IsDigitCount 16 (min (max least 1) 16) n k → 1 ≤ least → least ≤ 16 → n < 16 ^ least → k ≡ least
+exact-digits n k least count some most small =
+    let asked : min (max least 1) 16 ≡ least = omega arith in
+    let exact : IsDigitCount 16 least n k = rw asked at count in
+    omega (arith, few-digits 16 least n k least exact (omega arith) (omega arith) small, exact.0)
 
--- a word takes 16 digits, as it is asked for no fewer and there is room for no more
-pub word-digits : (n : ℕ) (area₀ : List ℕ) (at k : ℕ) (text : List ℕ) {r : ℕ} {area : List ℕ} → k ≡ 16 → take k text ≡ last_digits 16 k n → r ≡ at + length (take k text)
-    → area ≡ sets area₀ at (take k text) → (r ≡ at + 16) × (area ≡ sets area₀ at (hex_digits 16 n))
+pub value-digits : (n k least at : ℕ) (text area₀ : List ℕ) {area : List ℕ} {r : ℕ} → k ≡ least → take k text ≡ last_digits 16 k n → r ≡ at + length (take k text)
+    → area ≡ sets area₀ at (take k text) → (r ≡ at + least) × (area ≡ sets area₀ at (hex_digits least n))
 unfolding hex_digits
-word-digits n area₀ at k text {r} {area} all is there now =
-    let same : take k text ≡ last_digits 16 16 n = is ∙ ap (λ (m : ℕ). last_digits 16 m n) all in
-    (there ∙ ap (λ (m : ℕ). at + m) (ap (length {A = ℕ}) same ∙ digits-length 16 16 n), now ∙ ap (sets area₀ at) same)
+value-digits n k least at text area₀ same is there now =
+    let digits : take k text ≡ last_digits 16 least n = is ∙ ap (λ (m : ℕ). last_digits 16 m n) same in
+    (there ∙ ap (λ (m : ℕ). at + m) (ap (length {A = ℕ}) digits ∙ digits-length 16 least n), now ∙ ap (sets area₀ at) digits)
+
+-- ---- One value after the other.
+
+module _ {A : Type 0} (k : ℕ) (bits : A → ℕ) where
+  pub hex-length : (vs : List A) → length (in_hex k bits vs) ≡ k * length vs
+  hex-length [] = omega arith
+  hex-length (v ∷ vs) = omega (arith, length-append (hex_digits k (bits v)) (in_hex k bits vs), hex_digits-length k (bits v), hex-length vs, mul-suc k (length vs))
+
+  -- those before place i, and the one that stands there
+  pub hex-more : (vs : List A) (i : ℕ) (v : A) → i < length vs → v ≡ get_or vs i v → in_hex k bits (take (i + 1) vs) ≡ in_hex k bits (take i vs) ++ hex_digits k (bits v)
+  hex-more vs i v inside is =
+      ap (in_hex k bits) (take_more vs i v inside ∙ ap (λ (w : A). take i vs ++ (w ∷ [])) (sym is))
+      ∙ flat_map-append (λ (w : A). hex_digits k (bits w)) (take i vs) (v ∷ [])
+      ∙ ap (λ (l : List ℕ). in_hex k bits (take i vs) ++ l) (append-nil (hex_digits k (bits v)))
+
+  -- one value more was written behind the others
+  pub hex-step : (vs : List A) (i : ℕ) (v : A) → i < length vs → v ≡ get_or vs i v → (area₀ : List ℕ) (at : ℕ) {place place' : ℕ} {area area' : List ℕ} → place ≡ at + k * i
+      → area ≡ sets area₀ at (in_hex k bits (take i vs)) → place' ≡ place + k → area' ≡ sets area place (hex_digits k (bits v))
+      → (place' ≡ at + k * (i + 1)) × (area' ≡ sets area₀ at (in_hex k bits (take (i + 1) vs)))
+  hex-step vs i v inside is area₀ at {place} {place'} {area} {area'} there stands after now =
+      let digits = hex_digits k (bits v) in
+      let before = in_hex k bits (take i vs) in
+      let many : length before ≡ k * i = hex-length (take i vs) ∙ ap (λ (n : ℕ). k * n) (length-take-le i vs (omega arith)) in
+      let ends : place ≡ at + length before = omega (arith, there, many) in (
+        rw add-one (omega (arith, after, there, mul-suc k i)),
+        now ∙ ap (λ (a : List ℕ). sets a place digits) stands ∙ ap (λ (n : ℕ). sets (sets area₀ at before) n digits) ends
+            ∙ sets-append area₀ at before digits ∙ ap (sets area₀ at) (sym (hex-more vs i v inside is)),
+      )

@@ -39,15 +39,15 @@ use Rattle.text.proofs.Trees.{nodes-length}
 use Rattle.spelling.specs.Spelling.{sum_text}
 use Rattle.spelling.specs.WriteText.{text_places, text_into, write_text}
 use Rattle.replay.specs.Telling.{Shows}
-use Rattle.replay.proofs.Shows.{itself, shows-refused, shows-written, checked}
+use Rattle.replay.proofs.Shows.{shows-refused, shows-written, shows-singly, checked}
 
-packed-shows : (j : Judged Sum) (area : List ℕ) {t : Told} {x : List ℕ} → outcome t x ≡ packed_into j area → Shows itself (length x) t
+packed-shows : (j : Judged Sum) (area : List ℕ) {t : Told} {x : List ℕ} → outcome t x ≡ packed_into j area → Shows 1 (length x) t
 unfolding packed_into
-packed-shows (good s) area e = shows-written (packed s) area e refl
+packed-shows (good s) area e = shows-singly (packed s) area e refl
 packed-shows (fails refusal place) area e = shows-refused e
 
 worked-shows : (j : Judged Sum) (ws : List ℕ) (cs : List ℤ) (area : List ℕ) {t : Told} {ws' : List ℕ} {cs' : List ℤ} {x : List ℕ}
-    → outcome t (ws', cs', x) ≡ worked ws cs area j → Shows itself (length x) t
+    → outcome t (ws', cs', x) ≡ worked ws cs area j → Shows 1 (length x) t
 unfolding worked
 worked-shows j ws cs area {t} {ws'} {cs'} {x} e = go (leb work_places (length ws) && (leb work_places (length cs) && leb (most_bytes variables) (length area))) e
   where
@@ -55,33 +55,33 @@ worked-shows j ws cs area {t} {ws'} {cs'} {x} e = go (leb work_places (length ws
     only o = outcome o.answer o.areas.2
 
     go : (b : Bool) → outcome t (ws', cs', x) ≡ check b ROOM 0 (ws, cs, area) (beside (cleared 0 work_places ws) (cleared (pos 0) work_places cs) (packed_into j area))
-        → Shows itself (length x) t
+        → Shows 1 (length x) t
     go true f = packed-shows j area (ap only f)
     go false f = shows-refused f
 
 pub simplify-shows : (table : List ℤ) (ws : List ℕ) (cs : List ℤ) (area : List ℕ) {t : Told} {ws' : List ℕ} {cs' : List ℤ} {x : List ℕ}
-    → outcome t (ws', cs', x) ≡ simplify table ws cs area → Shows itself (length x) t
+    → outcome t (ws', cs', x) ≡ simplify table ws cs area → Shows 1 (length x) t
 unfolding simplify worked
 simplify-shows table ws cs area e = worked-shows (table_sum table) ws cs area e
 
 pub substitute-shows : (bytes list ws : List ℕ) (cs : List ℤ) (area : List ℕ) {t : Told} {ws' : List ℕ} {cs' : List ℤ} {x : List ℕ}
-    → outcome t (ws', cs', x) ≡ substitute bytes list ws cs area → Shows itself (length x) t
+    → outcome t (ws', cs', x) ≡ substitute bytes list ws cs area → Shows 1 (length x) t
 unfolding substitute worked
 substitute-shows bytes list ws cs area e = worked-shows (judge_substitute bytes list) ws cs area e
 
-pub slope-shows : (bytes : List ℕ) (v : ℕ) (area : List ℕ) {t : Told} {x : List ℕ} → outcome t x ≡ slope bytes v area → Shows itself (length x) t
+pub slope-shows : (bytes : List ℕ) (v : ℕ) (area : List ℕ) {t : Told} {x : List ℕ} → outcome t x ≡ slope bytes v area → Shows 1 (length x) t
 unfolding slope
 slope-shows bytes v area e = checked (leb (most_bytes variables) (length area)) ROOM 0 area _ (λ f. packed-shows _ area f) e
 
-pub write-shows : (bytes area : List ℕ) {t : Told} {x : List ℕ} → outcome t x ≡ write_text bytes area → Shows itself (length x) t
+pub write-shows : (bytes area : List ℕ) {t : Told} {x : List ℕ} → outcome t x ≡ write_text bytes area → Shows 1 (length x) t
 unfolding write_text text_into
 write-shows bytes area e = checked (leb text_places (length area)) ROOM 0 area _ (λ f. go (judged SUM (read_whole variables bytes)) f) e
   where
-    go : (j : Judged Sum) {t : Told} {x : List ℕ} → outcome t x ≡ text_into j area → Shows itself (length x) t
-    go (good s) f = shows-written (sum_text s) area f refl
+    go : (j : Judged Sum) {t : Told} {x : List ℕ} → outcome t x ≡ text_into j area → Shows 1 (length x) t
+    go (good s) f = shows-singly (sum_text s) area f refl
     go (fails refusal place) f = shows-refused f
 
-pub pack-shows : (count : ℕ) (ws : List ℕ) (cs : List ℤ) (area : List ℕ) {t : Told} {x : List ℕ} → outcome t x ≡ pack count ws cs area → Shows itself (length x) t
+pub pack-shows : (count : ℕ) (ws : List ℕ) (cs : List ℤ) (area : List ℕ) {t : Told} {x : List ℕ} → outcome t x ≡ pack count ws cs area → Shows 1 (length x) t
 unfolding pack
 pack-shows count ws cs area e =
     let bytes = packed (first_terms count ws cs) in
@@ -89,10 +89,10 @@ pack-shows count ws cs area e =
     checked (leb (most_bytes variables) (length area)) ROOM 0 area _
     (λ f. checked (leb count most_terms && (leb count (length ws) && leb count (length cs))) SHAPE 0 area _
     (λ g. checked (eqb found count) SUM found area _
-    (λ h. shows-written bytes area h refl) g) f) e
+    (λ h. shows-singly bytes area h refl) g) f) e
 
 pub unpack-shows : (bytes ws : List ℕ) (cs : List ℤ) {t : Told} {ws' : List ℕ} {cs' : List ℤ} → outcome t (ws', cs') ≡ unpack bytes ws cs
-    → Shows itself (length ws') t × Shows itself (length cs') t
+    → Shows 1 (length ws') t × Shows 1 (length cs') t
 unfolding unpack held_into
 unpack-shows bytes ws cs {t} {ws'} {cs'} e = go (leb most_terms (length ws) && leb most_terms (length cs)) (judged SUM (read_whole variables bytes)) e
   where
@@ -102,16 +102,16 @@ unpack-shows bytes ws cs {t} {ws'} {cs'} e = go (leb most_terms (length ws) && l
     coefficients : Outcome (List ℕ × List ℤ) → Outcome (List ℤ)
     coefficients o = outcome o.answer o.areas.1
 
-    go : (b : Bool) (j : Judged Sum) → outcome t (ws', cs') ≡ check b ROOM 0 (ws, cs) (held_into j ws cs) → Shows itself (length ws') t × Shows itself (length cs') t
-    go true (good s) f = (shows-written (words_of s) ws (ap words f) (length-map s _), shows-written (coefficients_of s) cs (ap coefficients f) (length-map s _))
+    go : (b : Bool) (j : Judged Sum) → outcome t (ws', cs') ≡ check b ROOM 0 (ws, cs) (held_into j ws cs) → Shows 1 (length ws') t × Shows 1 (length cs') t
+    go true (good s) f = (shows-singly (words_of s) ws (ap words f) (length-map s _), shows-singly (coefficients_of s) cs (ap coefficients f) (length-map s _))
     go true (fails refusal place) f = (shows-refused f, shows-refused f)
     go false j f = (shows-refused f, shows-refused f)
 
-pub text-shows : (text : List ℕ) (table : List ℤ) {t : Told} {x : List ℤ} → outcome t x ≡ read_formula text table → Shows (λ n. 3 * n) (length x) t
+pub text-shows : (text : List ℕ) (table : List ℤ) {t : Told} {x : List ℤ} → outcome t x ≡ read_formula text table → Shows 3 (length x) t
 unfolding read_formula table_into
 text-shows text table {t} {x} e = go (leb table_places (length table)) (judge_text text) e
   where
-    go : (b : Bool) (j : Judged Tree) → outcome t x ≡ check b ROOM 0 table (table_into j table) → Shows (λ n. 3 * n) (length x) t
+    go : (b : Bool) (j : Judged Tree) → outcome t x ≡ check b ROOM 0 table (table_into j table) → Shows 3 (length x) t
     go true (good tree) f =
         let nodes = nodes_of 0 tree in
         shows-written (table_of nodes) table f (table-length nodes ∙ ap (λ (k : ℕ). 3 * k) (nodes-length 0 tree))
@@ -124,12 +124,12 @@ answer-length e m =
 
 -- of the number that a C host gets
 pub estimate-shows : (bytes : List ℕ) → ((i : ℕ) → get_or bytes i 0 < 256) → (readings tolerances area : List ℕ) {number : ℕ} {x : List ℕ}
-    → (number, x) ≡ hosted narrow_unit (estimate bytes readings tolerances area) → Shows itself (length x) (heard number)
+    → (number, x) ≡ hosted narrow_unit (estimate bytes readings tolerances area) → Shows 1 (length x) (heard number)
 unfolding estimate answer_into
 estimate-shows bytes byte readings tolerances area {number} {x} e =
     go (leb answer_bytes (length area)) (judge_estimate bytes readings tolerances) (sym (estimate-heard bytes byte readings tolerances area e))
   where
-    go : (b : Bool) (j : Judged Estimate) → outcome (heard number) x ≡ check b ROOM 0 area (answer_into j area) → Shows itself (length x) (heard number)
-    go true (good v) f = shows-written (answer_of v.estimate v.margin) area f (answer-length v.estimate v.margin)
+    go : (b : Bool) (j : Judged Estimate) → outcome (heard number) x ≡ check b ROOM 0 area (answer_into j area) → Shows 1 (length x) (heard number)
+    go true (good v) f = shows-singly (answer_of v.estimate v.margin) area f (answer-length v.estimate v.margin)
     go true (fails refusal place) f = shows-refused f
     go false j f = shows-refused f

@@ -19,21 +19,12 @@ pub record Holds {A : Type 0} (zero : A) (rule : ℕ → A) (from to : ℕ) (are
   pub each : (i : ℕ) → from ≤ i → i < to → get_or area i zero ≡ rule i
 
 -- the places from one on hold what they were filled with
-abbrev pub BytesStay : ℕ → List ℕ → Type 0
-BytesStay from area = Holds 0 filled_byte from (length area) area
-
-abbrev pub WordsStay : ℕ → List ℕ → Type 0
-WordsStay from area = Holds 0 filled_word from (length area) area
-
-abbrev pub SignedStay : ℕ → List ℤ → Type 0
-SignedStay from area = Holds (pos 0) filled_signed from (length area) area
+abbrev pub Stays : {A : Type 0} → A → (ℕ → A) → ℕ → List A → Type 0
+Stays zero filled from area = Holds zero filled from (length area) area
 
 -- the first 8,192 places are zero, and the others hold what they were filled with
-abbrev pub WordsZero : List ℕ → Type 0
-WordsZero area = (work_places ≤ length area) × Holds 0 (λ i. 0) 0 work_places area × WordsStay work_places area
-
-abbrev pub SignedZero : List ℤ → Type 0
-SignedZero area = (work_places ≤ length area) × Holds (pos 0) (λ i. pos 0) 0 work_places area × SignedStay work_places area
+abbrev pub Cleared : {A : Type 0} → A → (ℕ → A) → List A → Type 0
+Cleared zero filled area = (work_places ≤ length area) × Holds zero (λ i. zero) 0 work_places area × Stays zero filled work_places area
 
 -- the fate of a work area: the first of these that it is
 abbrev pub FateIs : Type 0 → Type 0 → Fate → Type 0

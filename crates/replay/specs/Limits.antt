@@ -11,13 +11,3 @@ most_words = 9000
 -- bytes of an answer's line
 abbrev pub most_answer : ℕ
 most_answer = 2 * 16 * most_words + 128
-
--- of the area for a line, of that for its fields of bytes, and of that where answers are gathered
-abbrev pub most_line : ℕ
-most_line = 65537
-
-abbrev pub most_given : ℕ
-most_given = 32768
-
-abbrev pub most_gathered : ℕ
-most_gathered = 65536 + most_answer

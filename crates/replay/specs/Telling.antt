@@ -1,17 +1,23 @@
 -- What an operation answered, as the definitions of the library tell it.
-use Rattle.std.specs.Prelude.{ℕ, ◌≤◌}
+use Rattle.std.specs.Prelude.{ℕ, ◌*◌, ◌≤◌, Result, Ok, Err}
 use Rattle.answers.specs.Answers.{Told, Told.done, Told.refused}
-use Rattle.replay.specs.declared.telling.Told as code
-use Rattle.replay.specs.declared.telling.Told.TheVariants.{Done, Refused}
+use Rattle.answers.specs.declared.Refused.{Refused}
+use Rattle.answers.specs.Refusals.{number}
+use Rattle.replay.specs.declared.telling.HostRefusal.{HostRefusal}
 
-abbrev pub told_as : code.Told → Told
-told_as (Done n) = done n
-told_as (Refused refusal place) = refused refusal place
+-- a refusal by its number
+abbrev pub by_number : Refused → HostRefusal
+by_number r = record { refusal = number r.refusal; place = r.place }
 
--- what is said to be written fits: a rule gives the places for the number returned
-abbrev pub ShowsWhere : (ℕ → ℕ) → ℕ → Told → Type 0
-ShowsWhere places most (done n) = places n ≤ most
-ShowsWhere places most (refused refusal place) = Unit
+-- the code's answer, whose refusal is a number
+abbrev pub told_as : Result ℕ HostRefusal → Told
+told_as (Ok n) = done n
+told_as (Err e) = refused e.refusal e.place
 
-pub record Shows (places : ℕ → ℕ) (most : ℕ) (answer : Told) : Type 0 where
-  pub inside : ShowsWhere places most answer
+-- what is said to be written fits: so many places for each 1 of the number returned
+abbrev pub ShowsWhere : ℕ → ℕ → Told → Type 0
+ShowsWhere each most (done n) = each * n ≤ most
+ShowsWhere each most (refused refusal place) = Unit
+
+pub record Shows (each most : ℕ) (answer : Told) : Type 0 where
+  pub inside : ShowsWhere each most answer

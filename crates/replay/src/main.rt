@@ -2,21 +2,20 @@
 // Begin with docs/REPLAY.md, which has the lines, then with `main` and `operations`.
 #![tactic(auto)]
 
-ghost use Rattle.std.specs.Prelude.{◌≡◌, ◌+◌, ◌≤◌, length, IfOk, IfErr};
-ghost use Rattle.replay.specs.Limits.{most_answer, most_gathered};
-ghost use Rattle.replay.specs.Gathering.{Gathers};
+ghost use Rattle.std.specs.Prelude.{◌≤◌, length};
 
+use std::io;
 use std::io::Read;
 
 mod areas;
 mod changes;
-mod digits;
 mod fields;
 mod filling;
 mod formulas;
 mod lines;
 mod operations;
 mod packing;
+mod places;
 mod results;
 mod telling;
 
@@ -28,135 +27,81 @@ const MOST_BYTES: usize = 40000;
 
 const MOST_WORDS: usize = 9000;
 
-// The inputs of a line, as bytes: two digits for each.
+// A field of bytes: two digits for each.
 const MOST_GIVEN: usize = LONGEST_LINE / 2;
 
 // An answer with two areas of words written in full, and what stands beside them.
 const MOST_ANSWER: usize = 2 * 16 * MOST_WORDS + 128;
 
-// Answers are gathered, and written once they are longer than this.
-const ENOUGH: usize = 65536;
+// So much of the input is read at once.
+const PIECE: usize = 65536;
 
-const MOST_GATHERED: usize = ENOUGH + MOST_ANSWER;
-
-// How far it has come: the bytes of the line that has begun, and of the answers that are not written yet.
-#[derive(Clone, Copy)]
-struct Progress {
-    line: usize,
-    gathered: usize,
+// The line that has begun, and how much of it there is. One that is too long fills the area, and the rest of it is dropped.
+#[derive(Drop)]
+struct Line {
+    bytes: [u8; LONGEST_LINE + 1],
+    held: usize,
+    ghost inside: { held ≤ length bytes },
 }
 
-// One more byte of a line. A line that is too long fills the area, and the rest of it is dropped.
-fn add_byte(line: &mut [u8], held: usize, byte: u8) -> usize
-    requires { held ≤ length line.old }
-    ensures { result ≤ length line.new }
-{
-    if held < line.len() {
-        line[held] = byte;
-        return held + 1;
+impl Line {
+    fn new() -> Line {
+        Line {
+            bytes: areas::zeroed(),
+            held: 0,
+        }
     }
-    held
-}
 
-// Writes what is gathered when another answer might not find room. (A read or a write that fails ends the program; the areas then keep their lengths, and
-// nothing more is said of them.)
-fn make_room(rt: &impl Print, out: &[u8], gathered: usize) -> std::io::Result<usize>
-    requires most_gathered_in_bounds { most_gathered ≤ length out.now }
-    requires gathered_in_bounds { gathered ≤ length out.now }
-    ensures { IfOk result (λ left. left + most_answer ≤ length out.now) }
-{
-    if gathered > ENOUGH {
-        rt.write_all(&out[0..gathered])?;
-        return Ok(0);
+    fn add(&mut self, byte: u8) {
+        if self.held < self.bytes.len() {
+            self.bytes[self.held] = byte;
+            self.held += 1;
+        }
     }
-    Ok(gathered)
 }
 
-// A piece of the input, byte by byte: at the end of each line its answer is gathered.
+// Answers the line, and begins another.
+fn end_line(rt: &impl Print, line: &mut Line, out: &mut [u8; MOST_ANSWER]) -> io::Result<()> {
+    let end = operations::answer(&line.bytes[..line.held], out);
+    line.held = 0;
+    rt.write_all(&out[..end])
+}
+
+// A piece of the input, byte by byte.
 fn take_piece(
     rt: &impl Print,
     piece: &[u8],
-    line: &mut [u8],
-    out: &mut [u8],
-    progress: Progress,
-) -> std::io::Result<Progress>
-    requires most_gathered_in_bounds { most_gathered ≤ length out.old }
-    requires gathers { Gathers line.old progress.line out.old progress.gathered }
-    ensures ok { IfOk result (λ come. Gathers line.new come.line out.new come.gathered) }
-    ensures err { IfErr result (λ e. (length line.new ≡ length line.old) × (length out.new ≡ length out.old)) }
-{
-    let mut held = progress.line;
-    let mut gathered = progress.gathered;
-    let mut i = 0;
-    while i < piece.len() {
-        if piece[i] == b'\n' {
-            let end = operations::answer(&line[0..held], &mut out[gathered..]);
-            gathered = make_room(rt, out, gathered + end)?;
-            held = 0;
-            i += 1;
+    line: &mut Line,
+    out: &mut [u8; MOST_ANSWER],
+) -> io::Result<()> {
+    for b in piece {
+        if *b == b'\n' {
+            end_line(rt, line, out)?;
         } else {
-            held = add_byte(line, held, piece[i]);
-            i += 1;
+            line.add(*b);
         }
     }
-    Ok(Progress {
-        line: held,
-        gathered: gathered,
-    })
+    Ok(())
 }
 
-// The input to its end. The pieces are counted down from more than there can be, so that this ends.
-fn replay(
-    rt: &impl Print,
-    input: &mut impl Read,
-    piece: &mut [u8],
-    line: &mut [u8],
-    out: &mut [u8],
-) -> std::io::Result<Progress>
-    requires { most_gathered ≤ length out.old }
-    ensures ok { IfOk result (λ come. Gathers line.new come.line out.new come.gathered) }
-    ensures err { IfErr result (λ e. (length line.new ≡ length line.old) × (length out.new ≡ length out.old)) }
-{
-    let mut progress = Progress {
-        line: 0,
-        gathered: 0,
-    };
-    let mut left: u64 = 18446744073709551615;
-    while left > 0 {
-        let length = input.read(piece)?;
+// The input to its end. The pieces are counted from more than there can be, so that this ends. A last line without a newline is ended by the input's end.
+fn replay(rt: &impl Print, input: &mut impl Read) -> io::Result<()> {
+    let mut piece = [0u8; PIECE];
+    let mut line = Line::new();
+    let mut out = areas::zeroed::<u8, MOST_ANSWER>();
+    for _ in 0..u64::MAX {
+        let length = input.read(&mut piece)?;
         if length == 0 {
-            return Ok(progress);
+            break;
         }
-        progress = take_piece(rt, &piece[0..length], line, out, progress)?;
-        left -= 1;
+        take_piece(rt, &piece[..length], &mut line, &mut out)?;
     }
-    Ok(progress)
+    if line.held > 0 {
+        end_line(rt, &mut line, &mut out)?;
+    }
+    Ok(())
 }
 
-// A last line without a newline is ended by one.
-fn finish(
-    rt: &impl Print,
-    line: &mut [u8],
-    out: &mut [u8],
-    progress: Progress,
-) -> std::io::Result<()>
-    requires most_gathered_in_bounds { most_gathered ≤ length out.old }
-    requires gathers { Gathers line.old progress.line out.old progress.gathered }
-    ensures { IfErr result (λ e. (length line.new ≡ length line.old) × (length out.new ≡ length out.old)) }
-{
-    if progress.line > 0 {
-        let ended = take_piece(rt, b"\n", line, out, progress)?;
-        let all = ended.gathered;
-        return rt.write_all(&out[0..all]);
-    }
-    let gathered = progress.gathered;
-    rt.write_all(&out[0..gathered])
-}
-
-fn main(rt: HostRuntime) -> std::io::Result<()> {
-    let mut piece = io::large_buffer();
-    let mut line = areas::line();
-    let mut out = areas::answers();
-    let progress = replay(&rt, &mut rt.stdin(), &mut piece, &mut line, &mut out)?;
-    finish(&rt, &mut line, &mut out, progress)
+fn main(rt: HostRuntime) -> io::Result<()> {
+    replay(&rt, &mut rt.stdin())
 }

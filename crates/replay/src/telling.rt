@@ -3,29 +3,40 @@ ghost use Rattle.std.specs.Prelude.{◌≡◌, ◌+◌, ◌*◌, ◌≤◌, leng
 ghost use Rattle.answers.specs.Answers.{told as answer_told};
 ghost use Rattle.answers.specs.Host.{heard as heard_told};
 ghost use Rattle.replay.specs.Limits.{most_bytes, most_words, most_answer};
-ghost use Rattle.replay.specs.Telling.{told_as, Shows};
+ghost use Rattle.replay.specs.Telling.{by_number, told_as, Shows};
 
-use crate::{filling, lines};
-use answers::Answer;
+use crate::places::Place;
+use crate::{MOST_ANSWER, filling, lines};
+use answers::{Answer, Refused};
 
-#[derive(Clone, Copy)]
-pub enum Told {
-    // The number returned.
-    Done(usize),
-    // The refusal's number, and its place.
-    Refused(usize, usize),
+// A refusal as a C host hears it: its number, and its place.
+#[derive(Clone, Copy, Debug, PartialEq, Eq)]
+pub struct HostRefusal {
+    pub refusal: usize,
+    pub place: usize,
 }
+
+impl From<Refused> for HostRefusal {
+    ghost from_gives = { λ refused result. result ≡ by_number refused };
+
+    fn from(refused: Refused) -> HostRefusal {
+        HostRefusal {
+            refusal: refused.refusal.number(),
+            place: refused.place,
+        }
+    }
+}
+
+// The number returned, or the refusal.
+pub type Told = Result<usize, HostRefusal>;
 
 pub(crate) fn answered(answer: Answer) -> Told
     ensures { told_as result ≡ answer_told answer }
 {
-    match answer {
-        Answer::Done(n) => Told::Done(n),
-        Answer::Refused(refusal, place) => Told::Refused(refusal.number(), place),
-    }
+    answer.map_err(HostRefusal::from)
 }
 
-// A refusal's number is a multiple of this: of the first if the estimate refuses, else of the second.
+// (What compares has numbers of its own.) A refusal's number is a multiple of this: of the first if the estimate refuses, else of the second.
 const NARROW_UNIT: u64 = 65536;
 
 const WIDE_UNIT: u64 = 4294967296;
@@ -35,45 +46,54 @@ pub(crate) fn heard(number: u64) -> Told
     ensures { told_as result ≡ heard_told number }
 {
     if number < NARROW_UNIT {
-        return Told::Done(number as usize);
+        return Ok(number as usize);
     }
-    if number < WIDE_UNIT {
-        return Told::Refused(
-            (number / NARROW_UNIT) as usize,
-            (number % NARROW_UNIT) as usize,
-        );
-    }
-    Told::Refused((number / WIDE_UNIT) as usize, (number % WIDE_UNIT) as usize)
+    let unit = if number < WIDE_UNIT {
+        NARROW_UNIT
+    } else {
+        WIDE_UNIT
+    };
+    Err(HostRefusal {
+        refusal: (number / unit) as usize,
+        place: (number % unit) as usize,
+    })
 }
 
-// A line's beginning, for an operation whose result is bytes.
-pub(crate) fn tell_bytes(told: Told, res: &[u8], out: &mut [u8]) -> usize
-    requires res_len_bound { length res.now ≤ most_bytes }
-    requires shows { Shows (λ n. n) (length res.now) (told_as told) }
+// A line's beginning, for an operation whose result is in one area: so many places for each 1 of the number returned.
+fn tell_area<T: Place>(told: Told, each: usize, area: &[T], out: &mut [u8]) -> usize
+    requires area_len_bound { length area.now ≤ most_bytes }
+    requires digits_bound { T.DIGITS * length area.now ≤ 16 * most_words }
+    requires shows { Shows each (length area.now) (told_as told) }
     requires most_answer_in_bounds { most_answer ≤ length out.old }
     ensures { result + 16 ≤ most_answer }
 {
     match told {
-        Told::Refused(refusal, place) => {
-            let at = lines::refused(out, refusal, place);
-            lines::fate(out, at, filling::result_fate(filling::bytes_stay(res, 0)))
-        }
-        Told::Done(n) => {
+        Ok(n) => {
+            let count = each * n;
             let at = lines::done(out, n);
-            let next = lines::bytes(out, at, &res[..n]);
-            lines::fate(out, next, filling::result_fate(filling::bytes_stay(res, n)))
+            let next = lines::values(out, at, &area[..count]);
+            lines::fate(out, next, filling::result_fate(area, count))
+        }
+        Err(refused) => {
+            let at = lines::refused(out, refused.refusal, refused.place);
+            lines::fate(out, at, filling::result_fate(area, 0))
         }
     }
 }
 
-// The line of an operation whose only area takes bytes.
-pub(crate) fn tell_result(told: Told, res: &[u8], out: &mut [u8]) -> usize
-    requires res_len_bound { length res.now ≤ most_bytes }
-    requires shows { Shows (λ n. n) (length res.now) (told_as told) }
-    requires most_answer_in_bounds { most_answer ≤ length out.old }
+// The line of an operation that is lent no other area.
+pub(crate) fn tell_result<T: Place>(
+    told: Told,
+    each: usize,
+    area: &[T],
+    out: &mut [u8; MOST_ANSWER],
+) -> usize
+    requires area_len_bound { length area.now ≤ most_bytes }
+    requires digits_bound { T.DIGITS * length area.now ≤ 16 * most_words }
+    requires shows { Shows each (length area.now) (told_as told) }
     ensures { result ≤ most_answer }
 {
-    let at = tell_bytes(told, res, out);
+    let at = tell_area(told, each, area, out);
     lines::end(out, at)
 }
 
@@ -83,50 +103,18 @@ pub(crate) fn tell_worked(
     res: &[u8],
     patterns: &[u64],
     coefficients: &[i64],
-    out: &mut [u8],
+    out: &mut [u8; MOST_ANSWER],
 ) -> usize
     requires res_len_bound { length res.now ≤ most_bytes }
-    requires shows { Shows (λ n. n) (length res.now) (told_as told) }
+    requires shows { Shows 1 (length res.now) (told_as told) }
     requires patterns_len_bound { length patterns.now ≤ most_words }
     requires coefficients_len_bound { length coefficients.now ≤ most_words }
-    requires most_answer_in_bounds { most_answer ≤ length out.old }
     ensures { result ≤ most_answer }
 {
-    let at = tell_bytes(told, res, out);
-    let after = lines::fate(out, at, filling::words_fate(patterns));
-    let last = lines::fate(out, after, filling::signed_fate(coefficients));
+    let at = tell_area(told, 1, res, out);
+    let after = lines::fate(out, at, filling::work_fate(patterns));
+    let last = lines::fate(out, after, filling::work_fate(coefficients));
     lines::end(out, last)
-}
-
-// The line of a typed formula: three numbers for each node.
-pub(crate) fn tell_table(told: Told, table: &[i64], out: &mut [u8]) -> usize
-    requires table_len_bound { length table.now ≤ most_words }
-    requires shows { Shows (λ n. 3 * n) (length table.now) (told_as told) }
-    requires most_answer_in_bounds { most_answer ≤ length out.old }
-    ensures { result ≤ most_answer }
-{
-    match told {
-        Told::Refused(refusal, place) => {
-            let at = lines::refused(out, refusal, place);
-            let last = lines::fate(
-                out,
-                at,
-                filling::result_fate(filling::signed_stay(table, 0)),
-            );
-            lines::end(out, last)
-        }
-        Told::Done(n) => {
-            let count = 3 * n;
-            let at = lines::done(out, n);
-            let next = lines::signed_words(out, at, &table[..count]);
-            let last = lines::fate(
-                out,
-                next,
-                filling::result_fate(filling::signed_stay(table, count)),
-            );
-            lines::end(out, last)
-        }
-    }
 }
 
 // The line of an operation that was lent areas for terms: those of the first n are written.
@@ -136,16 +124,8 @@ fn tell_fates(patterns: &[u64], coefficients: &[i64], n: usize, out: &mut [u8], 
     requires at_in_bounds { at + 15 ≤ length out.old }
     ensures { result ≤ at + 15 }
 {
-    let after = lines::fate(
-        out,
-        at,
-        filling::result_fate(filling::words_stay(patterns, n)),
-    );
-    let last = lines::fate(
-        out,
-        after,
-        filling::result_fate(filling::signed_stay(coefficients, n)),
-    );
+    let after = lines::fate(out, at, filling::result_fate(patterns, n));
+    let last = lines::fate(out, after, filling::result_fate(coefficients, n));
     lines::end(out, last)
 }
 
@@ -153,25 +133,24 @@ pub(crate) fn tell_terms(
     told: Told,
     patterns: &[u64],
     coefficients: &[i64],
-    out: &mut [u8],
+    out: &mut [u8; MOST_ANSWER],
 ) -> usize
     requires patterns_len_bound { length patterns.now ≤ most_words }
     requires coefficients_len_bound { length coefficients.now ≤ most_words }
-    requires shows { Shows (λ n. n) (length patterns.now) (told_as told) }
-    requires shows_2 { Shows (λ n. n) (length coefficients.now) (told_as told) }
-    requires most_answer_in_bounds { most_answer ≤ length out.old }
+    requires patterns_show { Shows 1 (length patterns.now) (told_as told) }
+    requires coefficients_show { Shows 1 (length coefficients.now) (told_as told) }
     ensures { result ≤ most_answer }
 {
     match told {
-        Told::Refused(refusal, place) => {
-            let at = lines::refused(out, refusal, place);
-            tell_fates(patterns, coefficients, 0, out, at)
-        }
-        Told::Done(n) => {
+        Ok(n) => {
             let at = lines::done(out, n);
-            let next = lines::words(out, at, &patterns[..n]);
-            let last = lines::signed_words(out, next, &coefficients[..n]);
+            let next = lines::values(out, at, &patterns[..n]);
+            let last = lines::values(out, next, &coefficients[..n]);
             tell_fates(patterns, coefficients, n, out, last)
+        }
+        Err(refused) => {
+            let at = lines::refused(out, refused.refusal, refused.place);
+            tell_fates(patterns, coefficients, 0, out, at)
         }
     }
 }

@@ -17,9 +17,9 @@ module _ (bytes readings tolerances area : List ℕ) (room : answer_bytes ≤ le
   pub estimate-handed : {t : Told} → Handed bytes t → outcome t area ≡ estimate bytes readings tolerances area
   estimate-handed h = ap (λ (t : Told). outcome t area) h.says ∙ sym (refuses-estimate bytes readings tolerances area (at_sum room h.fault))
 
-  -- the places from 0 to `count` are `n` many
-  pub estimate-taken : (ws : List ℕ) (cs : List ℤ) {ws' : List ℕ} {cs' : List ℤ} {count n : ℕ} → Whole bytes ws cs ws' cs' count → n ≡ count
-      → {o : Outcome (List ℕ)} → o ≡ answer_into (judge_terms (first_terms n ws' cs') readings tolerances) area → o ≡ estimate bytes readings tolerances area
-  estimate-taken ws cs {ws'} {cs'} w all e =
-      let sum_is_lem = ap (λ (k : ℕ). first_terms k ws' cs') all ∙ written-terms ws cs w.of_bytes.accepted w.words_are w.coefficients_are w.many in
-      e ∙ ap (λ (s : Sum). answer_into (judge_terms s readings tolerances) area) sum_is_lem ∙ sym (after-sum bytes readings tolerances area room w.of_bytes)
+  -- the first `count` places of the arrays hold the sum
+  pub estimate-taken : (ws : List ℕ) (cs : List ℤ) {ws' : List ℕ} {cs' : List ℤ} {count : ℕ} → Whole bytes ws cs ws' cs' count
+      → {o : Outcome (List ℕ)} → o ≡ answer_into (judge_terms (first_terms count ws' cs') readings tolerances) area → o ≡ estimate bytes readings tolerances area
+  estimate-taken ws cs w e =
+      e ∙ ap (λ (s : Sum). answer_into (judge_terms s readings tolerances) area) (written-terms ws cs w.of_bytes.accepted w.words_are w.coefficients_are w.many)
+      ∙ sym (after-sum bytes readings tolerances area room w.of_bytes)

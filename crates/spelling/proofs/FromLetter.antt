@@ -1,5 +1,5 @@
 -- The letters of a word's pattern from a variable on: the next of them, or none.
-use mathlib.Core.Path.{◌≡◌, sym, ◌∙◌, ap}
+use mathlib.Core.Path.{◌≡◌, refl, sym, ◌∙◌, ap}
 use mathlib.Core.List.{[], ◌∷◌, ◌++◌}
 use Prim.Native.Nat.{ℕ, zero, suc, ◌+◌, ◌≤◌, ◌<◌}
 use native.Mathlib.Omega.{arith}
@@ -12,7 +12,7 @@ use Rattle.algebra.specs.Word.{exponents, Valid}
 use Rattle.algebra.proofs.Patterns.Laws.{exponent-degree}
 use Rattle.algebra.proofs.Patterns.Word.{exponents-length}
 use Rattle.spelling.specs.Spelling.{powers, more_powers}
-use Rattle.spelling.specs.Inside.Code.{letters_from}
+use Rattle.spelling.specs.Inside.Code.{letters_from, NoneBefore}
 use Rattle.spelling.proofs.Factors.{joined-next}
 
 -- the exponent at v, and those after it
@@ -34,10 +34,10 @@ exponent-low {w} valid v is = omega (arith, is, exponent-degree v (exponents w),
 
 module _ (w v : ℕ) where
   module _ (h : v < variables) {e : ℕ} (is : e ≡ exponent v (exponents w)) where
-    pub letter-absent : e ≡ 0 → letters_from w v ≡ letters_from w (v + 1)
+    letter-absent : e ≡ 0 → letters_from w v ≡ letters_from w (v + 1)
     letter-absent z = ap (powers v) (cut_at w v h) ∙ absent v (exponent v (exponents w)) _ (sym is ∙ z)
 
-    pub letter-present : 0 < e → letters_from w v ≡ record { variable = v; exponent = e } ∷ letters_from w (v + 1)
+    letter-present : 0 < e → letters_from w v ≡ record { variable = v; exponent = e } ∷ letters_from w (v + 1)
     letter-present some = ap (powers v) (cut_at w v h ∙ ap (λ (n : ℕ). n ∷ drop (v + 1) (exponents w)) (sym is)) ∙ present v e _ some
 
   -- what is written of the letters left: the letter of v, if it is one, and those after it
@@ -53,3 +53,18 @@ module _ (w v : ℕ) where
   no-letter h =
       let short : length (exponents w) ≤ v = rw (exponents-length w) h in
       ap (powers v) (drop_of_length-le (exponents w) short)
+
+-- ---- The first letter.
+
+none-before : (w v : ℕ) → v ≤ variables → NoneBefore w v → letters_from w v ≡ letters_from w 0
+none-before w zero h none = refl
+none-before w (suc v) h none =
+    let here : letters_from w v ≡ letters_from w (suc v) = rw add-one at (letter-absent w v (omega (arith, h)) refl (none v (omega arith))) in
+    sym here ∙ none-before w v (omega (arith, h)) (λ k l. none k (omega (arith, l)))
+
+pub letters-begin : (w v : ℕ) → v < variables → NoneBefore w v → {e : ℕ} → e ≡ exponent v (exponents w) → 0 < exponent v (exponents w)
+    → letters_from w 0 ≡ record { variable = v; exponent = e } ∷ letters_from w (v + 1)
+letters-begin w v h none is some = sym (none-before w v (omega (arith, h)) none) ∙ letter-present w v h is (omega (arith, is, some))
+
+pub no-letters : (w : ℕ) → NoneBefore w variables → letters_from w 0 ≡ []
+no-letters w none = sym (none-before w variables (omega arith) none) ∙ no-letter w variables (omega arith)

@@ -1,12 +1,12 @@
-// The factors of a term: its absolute coefficient and its letters. Each function that writes answers the place after what it wrote.
-ghost use Rattle.std.specs.Prelude.{◌≡◌, [], ◌∷◌, ◌++◌, ◌+◌, ◌≤◌, ◌<◌, length};
+// The factors of a term: its absolute coefficient and its letters. Each function that writes answers the place after what it wrote. Area and place are two
+// parameters: a struct that holds the lent area would have to say in each contract that it is still the same area.
+ghost use Rattle.std.specs.Prelude.{◌≡◌, [], ◌∷◌, ◌+◌, ◌≤◌, ◌<◌, length, MatchOption};
 ghost use Rattle.std.proofs.lemmas.List.Edits.{sets};
 ghost use Rattle.algebra.specs.Limits.{variables, largest_degree};
 ghost use Rattle.algebra.specs.Pattern.{exponent};
 ghost use Rattle.algebra.specs.Word.{exponents, Valid};
-ghost use Rattle.numbers.specs.Decimal.{decimal};
 ghost use Rattle.spelling.specs.Spelling.{powers, letter_text, more_powers, factors_text};
-ghost use Rattle.spelling.specs.Inside.Code.{letters_from};
+ghost use Rattle.spelling.specs.Inside.Code.{letters_from, NoneBefore};
 
 use algebra::Pattern;
 use numbers::decimal;
@@ -60,39 +60,17 @@ pub(crate) fn write_letters(area: &mut [u8], at: usize, pattern: Pattern, from: 
     ensures area_after { area.new ≡ sets area.old at (more_powers (letters_from pattern.0 from)) }
 {
     let mut place = at;
-    let mut v = from;
-    while v < Pattern::VARIABLES {
+    for v in from..Pattern::VARIABLES {
         place = write_joined(area, place, v, pattern.exponent(v));
-        v += 1;
     }
     place
 }
 
-// The variable of a pattern's first letter, and the number of variables if it has none.
-fn first_letter(pattern: Pattern) -> u64
-    ensures upper_bound { result ≤ variables }
-    ensures result_value { letters_from pattern.0 result ≡ letters_from pattern.0 0 }
-    ensures nonzero { result < variables → 0 < exponent result (exponents pattern.0) }
+// The variable of a pattern's first letter.
+fn first_letter(pattern: Pattern) -> Option<u64>
+    ensures { MatchOption result (NoneBefore pattern.0 variables) (λ v. (v < variables) × (0 < exponent v (exponents pattern.0)) × NoneBefore pattern.0 v) }
 {
-    let mut v: u64 = 0;
-    while v < Pattern::VARIABLES {
-        if pattern.exponent(v) > 0 {
-            return v;
-        }
-        v += 1;
-    }
-    v
-}
-
-// A number, and the letters of a pattern after it.
-fn write_numbered(area: &mut [u8], at: usize, n: u64, pattern: Pattern) -> usize
-    requires valid { Valid pattern.0 }
-    requires pattern_in_bounds { at + length (decimal n ++ more_powers (letters_from pattern.0 0)) ≤ length area.old }
-    ensures value { result ≡ at + length (decimal n ++ more_powers (letters_from pattern.0 0)) }
-    ensures area_after { area.new ≡ sets area.old at (decimal n ++ more_powers (letters_from pattern.0 0)) }
-{
-    let after = decimal::write_decimal(area, at, n);
-    write_letters(area, after, pattern, 0)
+    (0..Pattern::VARIABLES).find(|v| pattern.exponent(*v) > 0)
 }
 
 // A term without its sign, by its absolute coefficient. 1 is left out, unless there are no letters.
@@ -102,13 +80,12 @@ pub(crate) fn write_factors(area: &mut [u8], at: usize, size: u64, pattern: Patt
     ensures value { result ≡ at + length (factors_text size (powers 0 (exponents pattern.0))) }
     ensures area_after { area.new ≡ sets area.old at (factors_text size (powers 0 (exponents pattern.0))) }
 {
-    if size != 1 {
-        return write_numbered(area, at, size, pattern);
+    if size == 1 {
+        if let Some(v) = first_letter(pattern) {
+            let after = write_letter(area, at, v, pattern.exponent(v));
+            return write_letters(area, after, pattern, v + 1);
+        }
     }
-    let v = first_letter(pattern);
-    if v >= Pattern::VARIABLES {
-        return write_numbered(area, at, size, pattern);
-    }
-    let after = write_letter(area, at, v, pattern.exponent(v));
-    write_letters(area, after, pattern, v + 1)
+    let after = decimal::write_decimal(area, at, size);
+    write_letters(area, after, pattern, 0)
 }

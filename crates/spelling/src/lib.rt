@@ -2,13 +2,16 @@
 // Begin with specs/Spelling.antt and specs/WriteText.antt, then with `write_text`. proofs/Mailed.antt has what a reader of the text may count on.
 #![tactic(auto)]
 
-ghost use Rattle.std.specs.Prelude.{◌≡◌};
+ghost use Rattle.std.specs.Prelude.{◌≡◌, ◌≤◌, length};
+ghost use Rattle.algebra.specs.Limits.{most_terms};
 ghost use Rattle.answers.specs.Answers.{told, outcome};
-ghost use Rattle.spelling.specs.WriteText.{write_text};
+ghost use Rattle.numbers.specs.Item.{Item.got};
+ghost use Rattle.packed.specs.Inside.Held.{read_count};
+ghost use Rattle.spelling.specs.WriteText.{text_places, write_text};
 
-use algebra::MOST_TERMS;
+use algebra::{MOST_TERMS, Terms};
 use answers::{Answer, Refusal};
-use numbers::Read;
+use packed::FEW_TERMS;
 
 mod letters;
 mod terms;
@@ -16,32 +19,33 @@ mod terms;
 // What the area needs, whatever the sum.
 pub const TEXT_PLACES: usize = 8192;
 
-// Writes the text of a packed sum. The terms go through the operation's own arrays: the area is written when nothing can be refused any more.
+// The text of the `count` terms after a sum's count. They go through two arrays of N places: the area is written when nothing can be refused any more.
+fn write_by<const N: usize>(bytes: &[u8], at: usize, count: usize, area: &mut [u8]) -> Answer
+    requires places { N ≤ most_terms }
+    requires count_in_bounds { count ≤ N }
+    requires counted { read_count bytes.now 0 ≡ got count at }
+    requires room { text_places ≤ length area.old }
+    ensures { outcome (told result) area.new ≡ write_text bytes.now area.old }
+{
+    let mut patterns = [0u64; N];
+    let mut coefficients = [0i64; N];
+    packed::take_whole(bytes, at, count, &mut patterns, &mut coefficients)?;
+    let sum = Terms::first(count, &patterns, &coefficients);
+    Ok(terms::write_sum(area, sum))
+}
+
+// Writes the text of a packed sum. Few terms go through small arrays: to clear large ones would take longer than to write the text.
 pub fn write_text(bytes: &[u8], area: &mut [u8]) -> Answer
     ensures { outcome (told result) area.new ≡ write_text bytes.now area.old }
 {
     if area.len() < TEXT_PLACES {
-        return Answer::Refused(Refusal::Room, 0);
+        return Err(Refusal::Room.at(0));
     }
-    let first = packed::read_count(bytes, 0);
-    let Read::Value(number, next) = first else {
-        return packed::refused(first);
-    };
+    let (number, next) = packed::read_count(bytes, 0).map_err(packed::refused)?;
     let n = number as usize;
-    if n <= packed::FEW_TERMS {
-        let mut few = [0u64; packed::FEW_TERMS];
-        let mut few_coefficients = [0i64; packed::FEW_TERMS];
-        let taken = packed::take_whole(bytes, next, n, &mut few, &mut few_coefficients);
-        let Answer::Done(_) = taken else {
-            return taken;
-        };
-        return Answer::Done(terms::write_sum(area, &few, &few_coefficients, n));
+    if n <= FEW_TERMS {
+        write_by::<FEW_TERMS>(bytes, next, n, area)
+    } else {
+        write_by::<MOST_TERMS>(bytes, next, n, area)
     }
-    let mut patterns = [0u64; MOST_TERMS];
-    let mut coefficients = [0i64; MOST_TERMS];
-    let taken = packed::take_whole(bytes, next, n, &mut patterns, &mut coefficients);
-    let Answer::Done(_) = taken else {
-        return taken;
-    };
-    Answer::Done(terms::write_sum(area, &patterns, &coefficients, n))
 }

@@ -1,17 +1,17 @@
 // Terms with their signs, one after the other.
-ghost use Rattle.std.specs.Prelude.{◌≡◌, ◌+◌, ◌≤◌, length, take};
+// Area and place are two parameters: a struct of both would have to say in each contract which area it holds.
+ghost use Rattle.std.specs.Prelude.{◌≡◌, ◌+◌, ◌≤◌, length};
 ghost use Rattle.std.proofs.lemmas.List.Edits.{sets};
 ghost use Rattle.algebra.specs.Sum.{term};
-ghost use Rattle.algebra.specs.Word.{exponents, Valid, EachValid};
-ghost use Rattle.algebra.specs.Held.{first_terms};
+ghost use Rattle.algebra.specs.Word.{exponents, terms, Valid, EachValid};
 ghost use Rattle.answers.specs.Areas.{written};
 ghost use Rattle.numbers.specs.Decimal.{decimal};
 ghost use Rattle.spelling.specs.Spelling.{powers, next_sign, first_text, next_text, sum_text};
 ghost use Rattle.spelling.specs.Inside.Code.{after_number};
 
 use crate::letters;
-use algebra::Pattern;
-use numbers::{absolute, decimal};
+use algebra::{Pattern, Terms};
+use numbers::decimal;
 
 // What stands before a term that is not the first.
 fn next_sign(coefficient: i64) -> u8
@@ -27,7 +27,7 @@ fn write_first(area: &mut [u8], at: usize, coefficient: i64, pattern: Pattern) -
     ensures value { result ≡ at + length (first_text (term coefficient (exponents pattern.0))) }
     ensures area_after { area.new ≡ sets area.old at (first_text (term coefficient (exponents pattern.0))) }
 {
-    let size = absolute(coefficient);
+    let size = coefficient.unsigned_abs();
     if coefficient >= 0 {
         return letters::write_factors(area, at, size, pattern);
     }
@@ -42,6 +42,7 @@ fn write_number(area: &mut [u8], at: usize, size: u64, pattern: Pattern) -> usiz
     requires size_in_bounds { at + 1 + length (decimal size) ≤ length area.old }
     ensures { (result, area.new) ≡ after_number size (powers 0 (exponents pattern.0)) at area.old }
 {
+    // Two tests: joined by ||, the degree is taken of every term too whose number is not 1, by some four instructions more for each.
     if size != 1 {
         return decimal::write_decimal(area, at + 1, size);
     }
@@ -58,37 +59,30 @@ fn write_next(area: &mut [u8], at: usize, coefficient: i64, pattern: Pattern) ->
     ensures value { result ≡ at + length (next_text (term coefficient (exponents pattern.0))) }
     ensures area_after { area.new ≡ sets area.old at (next_text (term coefficient (exponents pattern.0))) }
 {
-    let after = write_number(area, at, absolute(coefficient), pattern);
+    let after = write_number(area, at, coefficient.unsigned_abs(), pattern);
     let end = letters::write_letters(area, after, pattern, 0);
     area[at] = next_sign(coefficient);
     end
 }
 
-// The text of a sum, from the start of the area. It answers its length.
-pub(crate) fn write_sum(
-    area: &mut [u8],
-    patterns: &[u64],
-    coefficients: &[i64],
-    count: usize,
-) -> usize
-    requires count_in_bounds { count ≤ length patterns.now }
-    requires count_in_bounds_2 { count ≤ length coefficients.now }
-    requires each_valid { EachValid (take count patterns.now) }
-    requires coefficients_in_bounds { length (sum_text (first_terms count patterns.now coefficients.now)) ≤ length area.old }
-    ensures value { result ≡ length (sum_text (first_terms count patterns.now coefficients.now)) }
-    ensures area_after { area.new ≡ written (sum_text (first_terms count patterns.now coefficients.now)) area.old }
+// The text of a sum, from the start of the area. It answers its length. The loop goes by index: zipped, the two slices take some twenty instructions more for
+// each term.
+pub(crate) fn write_sum(area: &mut [u8], sum: Terms) -> usize
+    requires as_many { length sum.coefficients.now ≡ length sum.patterns.now }
+    requires each_valid { EachValid sum.patterns.now }
+    requires sum_in_bounds { length (sum_text (terms sum.patterns.now sum.coefficients.now)) ≤ length area.old }
+    ensures value { result ≡ length (sum_text (terms sum.entry.patterns.now sum.entry.coefficients.now)) }
+    ensures area_after { area.new ≡ written (sum_text (terms sum.entry.patterns.now sum.entry.coefficients.now)) area.old }
 {
-    if count == 0 {
+    if sum.patterns.is_empty() {
         area[0] = b'0';
         return 1;
     }
-    let leading = coefficients[0];
-    let mut place = write_first(area, 0, leading, Pattern(patterns[0]));
-    let mut k = 1;
-    while k < count {
-        let coefficient = coefficients[k];
-        place = write_next(area, place, coefficient, Pattern(patterns[k]));
-        k += 1;
+    let leading = sum.coefficients[0];
+    let mut place = write_first(area, 0, leading, Pattern(sum.patterns[0]));
+    for k in 1..sum.patterns.len() {
+        let coefficient = sum.coefficients[k];
+        place = write_next(area, place, coefficient, Pattern(sum.patterns[k]));
     }
     place
 }

@@ -24,7 +24,7 @@ use Rattle.sums.proofs.Fronts.{Placed}
 use Rattle.sums.proofs.Gathering.{gathered-placed}
 use Rattle.sums.proofs.MakeRow.{row-length}
 use Rattle.sums.proofs.Multiplying.{row-held}
-use Rattle.sums.proofs.Ranking.{ranked-words}
+use Rattle.sums.proofs.Ranking.{ranked-words, ranked-held}
 
 module _ {ws : List ℕ} {cs : List ℤ} {n w : ℕ} {c : ℤ} {tp : List ℕ} {tc : List ℤ} (g : CanMerge ws cs n w c tp tc) where
   -- ---- The row and the running sum together.
@@ -60,20 +60,20 @@ module _ {ws : List ℕ} {cs : List ℤ} {n w : ℕ} {c : ℤ} {tp : List ℕ} {
   -- ---- The same by ranks: ks and ds hold the running sum, and kt the row's factor, whose rank is r.
 
   module _ (ks₀ : List ℕ) {ks : List ℕ} (ks-are : ks ≡ written (map rank_of (take n ws)) ks₀) (ds₀ : List ℤ) {ds : List ℤ} (ds-are : ds ≡ written (take n cs) ds₀) (kt₀ : List ℕ) {kt : List ℕ} (kt-are : kt ≡ written (map rank_of tp) kt₀)
-      {m : ℕ} (many : length tp ≡ m) {r : ℕ} (r-is : r ≡ rank_of w) where
+      {r : ℕ} (r-is : r ≡ rank_of w) where
     words_are : take n (words_at ks) ≡ take n ws
     words_are = sym (map-take word_at n ks) ∙ ranked-words (take n ws) ks₀ (each-valid g.running) ks-are running-long
 
     coefficients_are : take n ds ≡ take n cs
     coefficients_are = (written-front (take n cs) ds₀ ds-are coefficients-long).0
 
-    factor-is : words_at (take m kt) ≡ tp
-    factor-is = ranked-words tp kt₀ (each-valid g.factor) kt-are many
+    factor-is : words_at (take (length tp) kt) ≡ tp
+    factor-is = ranked-held g.factor kt₀ kt-are
 
     word_is : word_at r ≡ w
     word_is = ap word_at r-is ∙ word-at-rank w g.valid
 
-    pub ranks-merge : most_terms + most_terms ≤ length ks → most_terms + most_terms ≤ length ds → CanMerge (words_at ks) ds n (word_at r) c (words_at (take m kt)) tc
+    pub ranks-merge : most_terms + most_terms ≤ length ks → most_terms + most_terms ≤ length ds → CanMerge (words_at ks) ds n (word_at r) c (words_at (take (length tp) kt)) tc
     ranks-merge ranks-room coefficients_room = record {
       running = rw (words_are, coefficients_are) g.running;
       few = g.few;
@@ -85,19 +85,18 @@ module _ {ws : List ℕ} {cs : List ℤ} {n w : ℕ} {c : ℤ} {tp : List ℕ} {
       coefficients_room = omega (arith, ap length factor-is, g.few, g.factor.few);
     }
 
-    pub ranks-joined : joined c (word_at r) (words_at (take m kt)) tc n (words_at ks) ds ≡ joined c w tp tc n ws cs
+    pub ranks-joined : joined c (word_at r) (words_at (take (length tp) kt)) tc n (words_at ks) ds ≡ joined c w tp tc n ws cs
     ranks-joined = rw (words_are, coefficients_are, factor-is, word_is) refl
 
   -- ---- What is put back is what the contract says.
 
-  pub put_back : {all : ℕ} (ks : List ℕ) {ds : List ℤ} → Stands (joined c w tp tc n ws cs) all (words_at ks) ds → {m : ℕ} → all ≡ m → {ws' : List ℕ} {cs' : List ℤ}
-      → ws' ≡ written (words_at (take m ks)) (cleared 0 (n + length tp) ws) → cs' ≡ written (take m ds) (cleared (pos 0) (n + length tp) cs)
+  pub put_back : {all : ℕ} (ks : List ℕ) {ds : List ℤ} → Stands (joined c w tp tc n ws cs) all (words_at ks) ds → {ws' : List ℕ} {cs' : List ℤ}
+      → ws' ≡ written (words_at (take all ks)) (cleared 0 (n + length tp) ws) → cs' ≡ written (take all ds) (cleared (pos 0) (n + length tp) cs)
       → (all, ws', cs') ≡ joined_into c w tp tc n ws cs
   unfolding joined_into
-  put_back {all} ks {ds} stands {m} is words coefficients =
-      let spelled : words_at (take m ks) ≡ words_of (joined c w tp tc n ws cs) = map-take word_at m ks ∙ ap (λ (i : ℕ). take i (words_at ks)) (sym is) ∙ stands.words_are in
-      let valued : take m ds ≡ coefficients_of (joined c w tp tc n ws cs) = ap (λ (i : ℕ). take i ds) (sym is) ∙ stands.coefficients_are in
-      rw (stands.number_is, words, coefficients, spelled, valued) refl
+  put_back {all} ks stands words coefficients =
+      let spelled : words_at (take all ks) ≡ words_of (joined c w tp tc n ws cs) = map-take word_at all ks ∙ stands.words_are in
+      rw (stands.number_is, words, coefficients, spelled, stands.coefficients_are) refl
 
   -- ---- What a caller knows of the answer r and of the two areas then.
 

@@ -3,7 +3,6 @@ use mathlib.Core.Path.{◌≡◌, refl, sym, ◌∙◌, ap, ap₂}
 use mathlib.Core.List.{List, [], ◌∷◌, ◌++◌, append-nil}
 use Prim.Native.Nat.{ℕ, ◌+◌, ◌*◌, ◌≤◌, ◌<◌}
 use native.Mathlib.Omega.{arith}
-use native.Mathlib.Nat.{mul-le-mul_left}
 use native.Mathlib.Decide.{dec_lt}
 use lib.IntN.{ℤ, pos}
 use lib.ListN.{length, take, length-map}
@@ -21,14 +20,12 @@ use Rattle.algebra.proofs.Sums.Ring.{comm-total}
 use Rattle.algebra.proofs.Sums.Spreads.{append-spread, gather_turned, spread-rises, pairs-occurs}
 use Rattle.algebra.proofs.Sums.Results.{gather-weight, pairs-weight}
 use Rattle.sums.specs.Asked.{Factors}
-use Rattle.sums.specs.Formed.{Formed, formed_of, within, with_row}
+use Rattle.sums.specs.Formed.{Formed, formed_of, Formed.over, within, with_row}
 use Rattle.sums.specs.Rows.{RoomFor, CanAdd, Added, places_for, CanAddProduct}
-use Rattle.sums.specs.declared.Formed as declared
-use Rattle.sums.specs.declared.Formed.TheVariants.{Terms}
-use Rattle.sums.proofs.Refusing.{NoTerms}
+use Rattle.std.specs.Prelude.{Option, Some, None}
 use Rattle.sums.proofs.Holding.{map-take, holds, terms-many}
 use Rattle.sums.proofs.Answering.{number-refused, added-over}
-use Rattle.sums.proofs.Fronts.{Placed, placed-inside, placed-is, placed-held}
+use Rattle.sums.proofs.Fronts.{Placed, placed-is, placed-held}
 use Rattle.sums.proofs.Multiplying.{gather-rest, pairs-length, holdable-none, multiplied}
 use Rattle.sums.proofs.Pairing.{all_fit, each_fits}
 use Rattle.sums.proofs.One.{unit-degree, unit-held, unit-is, pairs-unit}
@@ -65,9 +62,6 @@ room_for n rows row {places} room few = go (dec_lt (n + rows * row) (most_terms 
     go (no most) = each_fits n rows row places (omega arith)
 
 module _ {ks : List ℕ} {cs : List ℤ} {n : ℕ} {sp : List ℕ} {sc : List ℤ} {tp : List ℕ} {tc : List ℤ} (g : CanAddProduct ks cs n sp sc tp tc) where
-  pub pairs-few : length sp * length tp ≤ most_terms * most_terms
-  pairs-few = omega (arith, mul-le-mul_left (length sp) g.second.few, g.first.few)
-
   pub can-add : CanAdd (words_at ks) cs n sp sc tp tc
   can-add = record {
     running = g.running;
@@ -80,24 +74,9 @@ module _ {ks : List ℕ} {cs : List ℤ} {n : ℕ} {sp : List ℕ} {sc : List �
     coefficients_room = room_for n (length sp) (length tp) g.coefficients_room g.second.few;
   }
 
-  other-first : CanAddProduct ks cs n tp tc sp sc
-  other-first = record {
-    running = g.running;
-    few = g.few;
-    first = g.second;
-    second = g.first;
-    low = omega (arith, g.low);
-    light = omega (arith, g.light);
-    words_room = omega (arith, g.words_room);
-    coefficients_room = omega (arith, g.coefficients_room);
-  }
-
 -- ---- Straight, with the other sum first.
 
 module _ {ks : List ℕ} {cs : List ℤ} {n : ℕ} {sp : List ℕ} {sc : List ℤ} {tp : List ℕ} {tc : List ℤ} (g : CanAddProduct ks cs n sp sc tp tc) where
-  pub can-add-other : CanAdd (words_at ks) cs n tp tc sp sc
-  can-add-other = can-add (other-first g)
-
   pub other-added : {answer : Formed ℕ} {ws' : List ℕ} {cs' : List ℤ} → Added (with_row (pairs (terms tp tc) (terms sp sc)) (first_terms n (words_at ks) cs)) answer ws' cs'
       → Added (with_row (pairs (terms sp sc) (terms tp tc)) (first_terms n (words_at ks) cs)) answer ws' cs'
   other-added told = rw (turned (terms sp sc) (terms tp tc) (first_terms n (words_at ks) cs)) told
@@ -132,61 +111,56 @@ module _ (sr tr : List ℕ) {ks : List ℕ} {cs : List ℤ} {n : ℕ} {sc : List
     coefficients_room = omega (arith, spare.coefficients);
   }
 
-  module _ (r : declared.Formed) (hr : List ℕ) {hc : List ℤ}
+  module _ (r : Option ℕ) (hr : List ℕ) {hc : List ℤ}
       (told : Added (with_row (pairs (terms (words_at sr) sc) (terms (words_at tr) tc)) (first_terms 0 (words_at hr₀) hc₀)) (formed_of r) (words_at hr) hc) where
-    pub formed-apart : {together : ℕ} → r ≡ Terms together → Apart ks cs n (words_at sr) sc (words_at tr) tc hr hc together
+    pub formed-apart : {together : ℕ} → r ≡ Some together → Apart ks cs n (words_at sr) sc (words_at tr) tc hr hc together
     formed-apart is = record { asked = g; placed = multiplied factors sr tr refl refl hr₀ hc₀ r hr told is }
 
     -- too many alone, they are too many
-    pub apart-over : NoTerms r → Added (with_row (pairs (terms (words_at sr) sc) (terms (words_at tr) tc)) (first_terms n (words_at ks) cs)) (formed_of r) (words_at ks) cs
+    pub apart-over : r ≡ None → Added (with_row (pairs (terms (words_at sr) sc) (terms (words_at tr) tc)) (first_terms n (words_at ks) cs)) over (words_at ks) cs
     unfolding with_row terms terms_by
-    apart-over key =
+    apart-over none =
         let all = pairs (terms (words_at sr) sc) (terms (words_at tr) tc) in
         let running = first_terms n (words_at ks) cs in
-        let no = number-refused (spread (all ++ [])) (gather (all ++ [])) r key told.number_is in
-        rw no.0 (added-over (spread (all ++ running)) (gather (all ++ running)) (words_at ks) cs (omega (arith, no.1, ap spread (append-nil all), wider all running)))
+        let many = number-refused (spread (all ++ [])) (gather (all ++ [])) r none told.number_is in
+        added-over (spread (all ++ running)) (gather (all ++ running)) (words_at ks) cs (omega (arith, many, ap spread (append-nil all), wider all running))
 
--- then they are one row, with the factor 1; the code lends the places from 0 to `together`, which are `count` many
+-- then they are one row, with the factor 1
 module _ {ks : List ℕ} {cs : List ℤ} {n : ℕ} {sp : List ℕ} {sc : List ℤ} {tp : List ℕ} {tc : List ℤ} {hr : List ℕ} {hc : List ℤ} {together : ℕ} (a : Apart ks cs n sp sc tp tc hr hc together) where
-  pub apart-inside : (together ≤ length hr) × (together ≤ length hc)
-  apart-inside = let inside = placed-inside a.placed in (omega (arith, inside.0, length-map hr word_at), inside.1)
+  abbrev all : List Term
+  all = pairs (terms sp sc) (terms tp tc)
 
-  module _ {count : ℕ} (all-lent : count ≡ together) where
-    abbrev all : List Term
-    all = pairs (terms sp sc) (terms tp tc)
+  apart-lent : terms (words_at (take together hr)) (take together hc) ≡ gather all
+  apart-lent = rw (map-take word_at together hr) (placed-is a.placed)
 
-    apart-lent : terms (words_at (take count hr)) (take count hc) ≡ gather all
-    apart-lent = rw (map-take word_at count hr, all-lent) (placed-is a.placed)
+  -- they are no more than all pairs
+  apart-few : length (words_at (take together hr)) ≤ length sp * length tp
+  apart-few =
+      omega (
+        arith,
+        ap length (map-take word_at together hr),
+        ap length a.placed.stands.words_are,
+        length-map (gather all) (λ (t : Term). word t.pattern),
+        spread-gather all,
+        spread-length all,
+        pairs-length (terms sp sc) (terms tp tc),
+        ap₂ (λ (x y : ℕ). x * y) (terms-many a.asked.first) (terms-many a.asked.second),
+      )
 
-    -- they are no more than all pairs
-    apart-few : length (words_at (take count hr)) ≤ length sp * length tp
-    apart-few =
-        omega (
-          arith,
-          ap length (map-take word_at count hr),
-          ap (λ (i : ℕ). length (take i (words_at hr))) all-lent,
-          ap length a.placed.stands.words_are,
-          length-map (gather all) (λ (t : Term). word t.pattern),
-          spread-gather all,
-          spread-length all,
-          pairs-length (terms sp sc) (terms tp tc),
-          ap₂ (λ (x y : ℕ). x * y) (terms-many a.asked.first) (terms-many a.asked.second),
-        )
+  pub can-join : CanAddProduct ks cs n (words_at (take together hr)) (take together hc) (words_at (0 ∷ [])) (pos 1 ∷ [])
+  unfolding weight
+  can-join = record {
+    running = a.asked.running;
+    few = a.asked.few;
+    first = rw (map-take word_at together hr) (placed-held a.placed);
+    second = unit-held;
+    low = rw (apart-lent, unit-is) (omega (arith, unit-degree, a.placed.holdable.low));
+    light = rw (apart-lent, unit-is) (omega (arith, gather-weight all, pairs-weight (terms sp sc) (terms tp tc), a.asked.light));
+    words_room = omega (arith, a.asked.words_room, apart-few);
+    coefficients_room = omega (arith, a.asked.coefficients_room, apart-few);
+  }
 
-    pub can-join : CanAddProduct ks cs n (words_at (take count hr)) (take count hc) (words_at (0 ∷ [])) (pos 1 ∷ [])
-    unfolding weight
-    can-join = record {
-      running = a.asked.running;
-      few = a.asked.few;
-      first = rw (map-take word_at count hr, all-lent) (placed-held a.placed);
-      second = unit-held;
-      low = rw (apart-lent, unit-is) (omega (arith, unit-degree, a.placed.holdable.low));
-      light = rw (apart-lent, unit-is) (omega (arith, gather-weight all, pairs-weight (terms sp sc) (terms tp tc), a.asked.light));
-      words_room = omega (arith, a.asked.words_room, apart-few);
-      coefficients_room = omega (arith, a.asked.coefficients_room, apart-few);
-    }
-
-    pub apart-added : {answer : Formed ℕ} {ws' : List ℕ} {cs' : List ℤ}
-        → Added (with_row (pairs (terms (words_at (take count hr)) (take count hc)) (terms (words_at (0 ∷ [])) (pos 1 ∷ []))) (first_terms n (words_at ks) cs)) answer ws' cs'
-        → Added (with_row (pairs (terms sp sc) (terms tp tc)) (first_terms n (words_at ks) cs)) answer ws' cs'
-    apart-added told = rw (apart-lent, unit-is, pairs-unit variables (gather all) a.placed.holdable.long, apart all (first_terms n (words_at ks) cs)) at told
+  pub apart-added : {answer : Formed ℕ} {ws' : List ℕ} {cs' : List ℤ}
+      → Added (with_row (pairs (terms (words_at (take together hr)) (take together hc)) (terms (words_at (0 ∷ [])) (pos 1 ∷ []))) (first_terms n (words_at ks) cs)) answer ws' cs'
+      → Added (with_row (pairs (terms sp sc) (terms tp tc)) (first_terms n (words_at ks) cs)) answer ws' cs'
+  apart-added told = rw (apart-lent, unit-is, pairs-unit variables (gather all) a.placed.holdable.long, apart all (first_terms n (words_at ks) cs)) at told

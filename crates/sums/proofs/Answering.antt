@@ -12,9 +12,7 @@ use Rattle.algebra.specs.Held.{words_of, coefficients_of}
 use Rattle.answers.specs.Areas.{written}
 use Rattle.sums.specs.Formed.{Formed, formed_of, Formed.formed, Formed.over, within, formed_into}
 use Rattle.sums.specs.Rows.{Stands, counted, Added}
-use Rattle.sums.specs.declared.Formed as declared
-use Rattle.sums.specs.declared.Formed.TheVariants.{Terms, Over}
-use Rattle.sums.proofs.Refusing.{NoTerms}
+use Rattle.std.specs.Prelude.{Option, Some, None}
 use Rattle.sums.proofs.Forming.{within-yes, within-no}
 
 -- ---- The number alone.
@@ -41,9 +39,8 @@ module _ (spread : ℕ) (s : Sum) where
           let told : over ≡ formed (length s) = e ∙ ap counted (within-yes spread s (omega arith)) in
           let z : ◌≡◌ {A = ℕ} 0 1 = cc in absurd (omega arith)
 
-  pub number-refused : (r : declared.Formed) → NoTerms r → formed_of r ≡ counted (within spread s) → (formed_of r ≡ over) × (most_terms < spread)
-  number-refused (Terms n) k e = absurd (k n refl)
-  number-refused Over k e = (refl, over-many e)
+  pub number-refused : (r : Option ℕ) → r ≡ None → formed_of r ≡ counted (within spread s) → most_terms < spread
+  number-refused r none e = over-many (sym (ap formed_of none) ∙ e)
 
 -- ---- With areas that are the function's to write: nothing is said of their other places.
 
@@ -74,7 +71,7 @@ module _ (spread : ℕ) (s : Sum) (ws : List ℕ) (cs : List ℤ) where
       same_coefficients : (t : Sum) → s ≡ t → take (length t) cs ≡ coefficients_of t
       same_coefficients t e = rw (← e, ← f.number_is) f.coefficients_are
 
-  pub added-given : (r : declared.Formed) {n : ℕ} → r ≡ Terms n → Added (within spread s) (formed_of r) ws cs → (spread ≤ most_terms) × Stands s n ws cs
+  pub added-given : (r : Option ℕ) {n : ℕ} → r ≡ Some n → Added (within spread s) (formed_of r) ws cs → (spread ≤ most_terms) × Stands s n ws cs
   added-given r {n} is a =
       let told = number-given spread s (ap formed_of (sym is) ∙ a.number_is) in
       let yes = within-yes spread s told.0 in (
@@ -104,18 +101,17 @@ module _ (spread : ℕ) (s : Sum) (ws₀ : List ℕ) (cs₀ : List ℤ) (ws : Li
   number (formed t) = refl
   number over = refl
 
-  pub given : (r : declared.Formed) {n : ℕ} → r ≡ Terms n → Answers (formed_of r) → Known n
+  pub given : (r : Option ℕ) {n : ℕ} → r ≡ Some n → Answers (formed_of r) → Known n
   unfolding formed_into
   given r is e =
       let told = number-given spread s (ap formed_of (sym is) ∙ ap (λ x. x.0) e ∙ number (within spread s)) in
       let all = e ∙ ap (λ x. formed_into x ws₀ cs₀) (within-yes spread s told.0) in
       record { few = told.0; many = told.1; words_are = ap (λ x. x.1) all; coefficients_are = ap (λ x. x.2) all }
 
-  pub refused : (r : declared.Formed) → NoTerms r → Answers (formed_of r) → (formed_of r ≡ over) × (most_terms < spread)
-  refused r k e = number-refused spread s r k (ap (λ x. x.0) e ∙ number (within spread s))
+  pub refused : (r : Option ℕ) → r ≡ None → Answers (formed_of r) → most_terms < spread
+  refused r none e = number-refused spread s r none (ap (λ x. x.0) e ∙ number (within spread s))
 
 -- a sum whose spread is above 128 is refused, and the areas stay
-pub over-into : (spread : ℕ) (s : Sum) (ws : List ℕ) (cs : List ℤ) (r : declared.Formed) → formed_of r ≡ over → most_terms < spread
-    → (formed_of r, ws, cs) ≡ formed_into (within spread s) ws cs
+pub over-into : (spread : ℕ) (s : Sum) (ws : List ℕ) (cs : List ℤ) → most_terms < spread → (over, ws, cs) ≡ formed_into (within spread s) ws cs
 unfolding formed_into
-over-into spread s ws cs r is many = rw (within-no spread s many, is)
+over-into spread s ws cs many = rw (within-no spread s many)

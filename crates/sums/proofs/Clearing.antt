@@ -6,7 +6,7 @@ use native.Mathlib.Omega.{arith}
 use lib.IntN.{ℤ, pos}
 use lib.ListN.{length, get_or, take, drop, length-append, length-take, length-drop, length-map, drop_of_length-le, replicate, length-replicate, replicate-append-replicate}
 use lib.Seq.{drop_at, drop-append-le, length-take-le}
-use borrow.Rule.Slice.PartMut.{mid_of, put_mid}
+use borrow.Rule.Slice.PartMut.{put_mid}
 use Rattle.algebra.specs.Sum.{Term, Sum}
 use Rattle.algebra.specs.Word.{word, EachValid}
 use Rattle.algebra.specs.Inside.Rank.{rank_of, word_at, words_at}
@@ -14,7 +14,9 @@ use Rattle.algebra.specs.Held.{words_of, coefficients_of}
 use Rattle.algebra.proofs.Patterns.Rank.{words-again}
 use Rattle.answers.specs.Areas.{written, cleared}
 use Rattle.answers.proofs.Writes.{written-front}
-use Rattle.sums.specs.Formed.{Formed, Formed.formed, Formed.over}
+use Rattle.std.specs.Prelude.{Option, Some, None}
+use Rattle.std.specs.Option.{unwrap_or}
+use Rattle.sums.specs.Formed.{Formed, Formed.formed, Formed.over, formed_of}
 use Rattle.sums.specs.Rows.{Added, ranks_of, running_into}
 use Rattle.sums.proofs.Holding.{map-take, Holdable, each-valid, holds}
 use Rattle.sums.proofs.Ranking.{front-ranks}
@@ -35,17 +37,16 @@ module _ {A : Type 0} (zero : A) where
 
   -- the values stand in the first places, and the others are cleared
   rest-cleared : (values area₀ area rest : List A) (k : ℕ) → take k area ≡ values → length values ≡ k → k ≤ length area → length area ≡ length area₀
-      → rest ≡ cleared zero (length area - k) (mid_of k (length area - k) area)
+      → rest ≡ replicate (length area - k) zero
       → put_mid k (length area - k) area rest ≡ written values (cleared zero (length area₀) area₀)
   rest-cleared values area₀ area rest k front many inside same is =
       let left = length area - k in
       let zeros = replicate left zero in
       let none : drop left (drop k area) ≡ [] = drop_of_length-le (drop k area) {i = left} (omega (arith, length-drop k area)) in
-      let cleared-rest : rest ≡ zeros = is ∙ all-cleared left (mid_of k left area) (omega (arith, length-take left (drop k area))) in
       let after : drop (length values) (cleared zero (length area₀) area₀) ≡ zeros =
       ap₂ (λ (i : ℕ) (l : List A). drop i l) many (all-cleared (length area₀) area₀ (omega arith) ∙ ap (λ (n : ℕ). replicate n zero) (sym same)) ∙ drop-zeros (length area) k inside
       in
-      ap₂ (λ (l m : List A). l ++ m) front (ap₂ (λ (l m : List A). l ++ m) cleared-rest none ∙ append-nil zeros) ∙ ap (λ (l : List A). values ++ l) (sym after)
+      ap₂ (λ (l m : List A). l ++ m) front (ap₂ (λ (l m : List A). l ++ m) is none ∙ append-nil zeros) ∙ ap (λ (l : List A). values ++ l) (sym after)
 
   -- values that were written to the first places of an area, cleared as a whole, of which the code lent them: the other places stay
   part-cleared : (values area part : List A) (end : ℕ) → end ≤ length area → part ≡ written values (cleared zero (length (take end area)) (take end area)) → length part ≡ length (take end area)
@@ -69,6 +70,11 @@ abbrev pub number_of : Formed ℕ → ℕ
 number_of (formed n) = n
 number_of over = 0
 
+-- what the code makes of its answer
+pub number-unwrapped : (r : Option ℕ) → unwrap_or r 0 ≡ number_of (formed_of r)
+number-unwrapped (Some n) = refl
+number-unwrapped None = refl
+
 pub number-inside : (f : Formed Sum) {answer : Formed ℕ} (ks : List ℕ) {cs : List ℤ} {all : ℕ} → Added f answer (words_at ks) cs → all ≡ number_of answer → (all ≤ length ks) × (all ≤ length cs)
 number-inside (formed s) ks {cs} {all} a is =
     let many : all ≡ length s = is ∙ ap number_of a.number_is in (
@@ -85,8 +91,8 @@ ranks-stand ks a small holdable s is =
     front-ranks (length s) ks small (subst EachValid (sym words) (each-valid (holds (holdable s is)))) ∙ ap (map rank_of) words
 
 module _ {answer : Formed ℕ} (ks₀ : List ℕ) (cs₀ : List ℤ) (ks : List ℕ) (cs : List ℤ) (all : ℕ) (is : all ≡ number_of answer) (same-ranks : length ks ≡ length ks₀) (same_coefficients : length cs ≡ length cs₀)
-    {ps : List ℕ} {ds : List ℤ} (ranks : ps ≡ cleared 0 (length ks - all) (mid_of all (length ks - all) ks))
-    (coefficients : ds ≡ cleared (pos 0) (length cs - all) (mid_of all (length cs - all) cs)) where
+    {ps : List ℕ} {ds : List ℤ} (ranks : ps ≡ replicate (length ks - all) 0)
+    (coefficients : ds ≡ replicate (length cs - all) (pos 0)) where
   pub cleared-into : (f : Formed Sum) → Added f answer (words_at ks) cs → ((s : Sum) → f ≡ formed s → take (length s) ks ≡ ranks_of s)
       → (answer, put_mid all (length ks - all) ks ps, put_mid all (length cs - all) cs ds) ≡ running_into f (cleared 0 (length ks₀) ks₀) (cleared (pos 0) (length cs₀) cs₀)
   unfolding running_into

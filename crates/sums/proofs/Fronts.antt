@@ -4,8 +4,8 @@ use mathlib.Core.List.{List}
 use Prim.Native.Nat.{ℕ, ◌≤◌}
 use native.Mathlib.Omega.{arith}
 use lib.IntN.{ℤ}
-use lib.ListN.{length, take, length-take, length-map}
-use lib.Seq.{length-take-le, take_all}
+use lib.ListN.{length, take, drop, length-take, length-drop, length-append, length-map}
+use lib.Seq.{length-take-le}
 use Rattle.algebra.specs.Limits.{most_terms}
 use Rattle.algebra.specs.Sum.{Term, Sum}
 use Rattle.algebra.specs.Word.{word, terms}
@@ -78,13 +78,15 @@ front-written {s} ws₀ cs₀ words coefficients many holdable words_room coeffi
     }
 
 -- a sum was copied there
-pub front-copied : {tp : List ℕ} {tc : List ℤ} → Held tp tc → (ws₀ : List ℕ) (cs₀ : List ℤ) {ws : List ℕ} {cs : List ℤ} → ws ≡ written (take (length tp) tp) ws₀ → cs ≡ written (take (length tp) tc) cs₀
-    → most_terms ≡ length ws → most_terms ≡ length cs → Front (terms tp tc) ws cs (length tp)
-front-copied {tp} {tc} held ws₀ cs₀ words coefficients =
+pub front-copied : {tp : List ℕ} {tc : List ℤ} → Held tp tc → (ws₀ : List ℕ) (cs₀ : List ℤ) {ws : List ℕ} {cs : List ℤ} → ws ≡ written tp ws₀ → cs ≡ written tc cs₀
+    → most_terms ≡ length ws₀ → most_terms ≡ length cs₀ → Front (terms tp tc) ws cs (length tp)
+front-copied {tp} {tc} held ws₀ cs₀ words coefficients words_room coefficients_room =
     front-written ws₀ cs₀
-    (words ∙ ap (λ l. written l ws₀) (take_all (length tp) tp (omega arith) ∙ held.words_are))
-    (coefficients ∙ ap (λ l. written l cs₀) (take_all (length tp) tc (omega (arith, as_many held)) ∙ held.coefficients_are))
+    (words ∙ ap (λ l. written l ws₀) held.words_are)
+    (coefficients ∙ ap (λ l. written l cs₀) held.coefficients_are)
     (terms-many held) (holdable held)
+    (omega (arith, ap length words, length-append tp (drop (length tp) ws₀), length-drop (length tp) ws₀, held.few))
+    (omega (arith, ap length coefficients, length-append tc (drop (length tc) cs₀), length-drop (length tc) cs₀, as_many held, held.few))
 
 module _ {s : Sum} {ws : List ℕ} {cs : List ℤ} {n : ℕ} (f : Front s ws cs n) where
   pub front-placed : Placed s n ws cs

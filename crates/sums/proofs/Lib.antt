@@ -4,7 +4,6 @@ pub mod Storing
 pub mod MakeRow
 pub mod Finishing
 pub mod Forming
-pub mod Refusing
 pub mod Answering
 pub mod Single
 pub mod Fronts
@@ -37,6 +36,7 @@ pub mod Raising
 pub mod OneTerm
 pub mod TwoTerms
 pub mod Stepping
+pub mod Walking
 pub mod Wording
 pub mod RaisingTwo
 pub mod Parts

@@ -22,11 +22,9 @@ use Rattle.algebra.proofs.Sums.Occurs.{spread-gather}
 use Rattle.algebra.proofs.Sums.Spreads.{product-spread-comm}
 use Rattle.algebra.proofs.Sums.Results.{append-weight, product-degree, product-length}
 use Rattle.sums.specs.Asked as asked
-use Rattle.sums.specs.Formed.{formed_of, Formed.formed, within, product_of, with_row, formed_into}
+use Rattle.sums.specs.Formed.{formed_of, Formed.formed, Formed.over, within, product_of, with_row, formed_into}
 use Rattle.sums.specs.Rows.{RoomFor, CanAdd, Added}
-use Rattle.sums.specs.declared.Formed as declared
-use Rattle.sums.specs.declared.Formed.TheVariants.{Terms}
-use Rattle.sums.proofs.Refusing.{NoTerms}
+use Rattle.std.specs.Prelude.{Option, Some, None}
 use Rattle.sums.proofs.Holding.{Holdable, holdable, holds}
 use Rattle.sums.proofs.Answering.{number-refused, added-given, over-into}
 use Rattle.sums.proofs.Fronts.{Placed}
@@ -148,20 +146,18 @@ module _ {sp : List ℕ} {sc : List ℤ} {tp : List ℕ} {tc : List ℤ} (g : as
   }
 
   -- what is answered
-  module _ (r : declared.Formed) (ks' : List ℕ) {cs' : List ℤ} (a : Added (with_row (pairs (terms (words_at sr) sc) (terms (words_at tr) tc)) (first_terms 0 (words_at ks) cs)) (formed_of r) (words_at ks') cs') where
+  module _ (r : Option ℕ) (ks' : List ℕ) {cs' : List ℤ} (a : Added (with_row (pairs (terms (words_at sr) sc) (terms (words_at tr) tc)) (first_terms 0 (words_at ks) cs)) (formed_of r) (words_at ks') cs') where
     told : Added (within (spread (pairs s t)) (gather (pairs s t))) (formed_of r) (words_at ks') cs'
     unfolding with_row
     told =
         let all = ap (λ l. pairs s t ++ l) (nothing (words_at ks) cs) ∙ append-nil (pairs s t) in
         subst (λ l. Added (within (spread l) (gather l)) (formed_of r) (words_at ks') cs') all (rw (first, second) at a)
 
-    pub stops : NoTerms r → (ps : List ℕ) (ds : List ℤ) → (formed_of r, ps, ds) ≡ formed_into (product_of (terms sp sc) (terms tp tc)) ps ds
+    pub stops : r ≡ None → (ps : List ℕ) (ds : List ℤ) → (over, ps, ds) ≡ formed_into (product_of (terms sp sc) (terms tp tc)) ps ds
     unfolding product_of product_spread
-    stops key ps ds =
-        let no = number-refused (spread (pairs s t)) (gather (pairs s t)) r key told.number_is in
-        over-into (spread (pairs s t)) (s ⊗ t) ps ds r no.0 no.1
+    stops none ps ds = over-into (spread (pairs s t)) (s ⊗ t) ps ds (number-refused (spread (pairs s t)) (gather (pairs s t)) r none told.number_is)
 
-    pub multiplied : {all : ℕ} → r ≡ Terms all → Placed (gather (pairs (terms sp sc) (terms tp tc))) all (words_at ks') cs'
+    pub multiplied : {all : ℕ} → r ≡ Some all → Placed (gather (pairs (terms sp sc) (terms tp tc))) all (words_at ks') cs'
     multiplied is =
         let yes = added-given (spread (pairs s t)) (gather (pairs s t)) (words_at ks') cs' r is told in
         gathered-placed (pairs s t) (all-long factors) (all-low factors) yes.0 yes.1

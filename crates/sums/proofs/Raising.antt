@@ -3,7 +3,7 @@ use mathlib.Core.Path.{◌≡◌, refl, sym, ◌∙◌, ap}
 use mathlib.Core.List.{List}
 use Prim.Native.Nat.{ℕ, zero, suc, ◌+◌, ◌*◌, ◌-◌, ◌^◌, max, ◌≤◌, ◌<◌}
 use native.Mathlib.Omega.{arith}
-use native.Mathlib.Nat.{add-zero, le_refl, le_trans, le-max_left, le-max_right, max-le, mul-le-mul_left, mul-le-mul_right, pow-zero, pow-suc, pow-le-pow_right}
+use native.Mathlib.Nat.{add-zero, le_refl, le_trans, le-max_left, le-max_right, max-le, mul-le-mul_left, mul-le-mul_right, pow-suc, pow-le-pow_right}
 use native.Mathlib.Numerals.{add-one}
 use lib.IntN.{ℤ, pos}
 use lib.ListN.{length, take}
@@ -14,11 +14,9 @@ use Rattle.algebra.specs.Word.{terms}
 use Rattle.algebra.specs.Held.{first_terms}
 use Rattle.algebra.proofs.Sums.Results.{unit-integer, power-degree, power-weight}
 use Rattle.answers.specs.Areas.{written}
-use Rattle.sums.specs.Formed.{formed_of, Formed.formed, within, product_of, power_of, formed_into}
-use Rattle.sums.specs.declared.Formed as declared
-use Rattle.sums.specs.declared.Formed.TheVariants.{Terms}
+use Rattle.sums.specs.Formed.{formed_of, Formed.formed, Formed.over, within, product_of, power_of, formed_into}
+use Rattle.std.specs.Prelude.{Option, Some, None}
 use Rattle.sums.specs.Held.{Held}
-use Rattle.sums.proofs.Refusing.{NoTerms}
 use Rattle.sums.proofs.Holding.{holdable}
 use Rattle.sums.proofs.Forming.{within-yes}
 use Rattle.sums.proofs.Answering.{given, refused, over-into}
@@ -65,13 +63,6 @@ pub power-two : (s : Sum) (e : ℕ) → e ≡ 2 → product_of s s ≡ power_of 
 unfolding power_of product_of power power_spread
 power-two s e two = let no_less : product_spread s s ≡ max 0 (product_spread s s) = omega arith in rw two (ap (λ (m : ℕ). within m (s ⊗ s)) no_less)
 
--- the square of a sum that can be raised to it
-pub square-light : (w e : ℕ) → e ≡ 2 → w ^ e ≤ largest_weight → w * w ≤ largest_weight
-square-light w e two light =
-    let once : 1 * w ≡ w = omega arith in
-    let first : w ^ 1 ≡ w = pow-suc w 0 ∙ ap (λ (m : ℕ). m * w) (pow-zero w) ∙ once in
-    heavier w w 1 e (omega (arith, first)) (omega arith) light
-
 -- ---- The loop.
 
 -- the arrays that each product works in
@@ -93,7 +84,7 @@ pub record Raising (sp : List ℕ) (sc : List ℤ) (e : ℕ) (own-patterns : Lis
   pub next_coefficients_room : most_terms ≡ length next-coefficients
 
 pub start : {sp : List ℕ} {sc : List ℤ} {e : ℕ} {ws : List ℕ} {cs : List ℤ} {n : ℕ} (next-patterns : List ℕ) (next-coefficients : List ℤ) → Held sp sc
-    → degree_of (terms sp sc) * e ≤ largest_degree → weight (terms sp sc) ^ e ≤ largest_weight → (e ≡ 0 → ⊥) → Front (terms sp sc) ws cs n
+    → degree_of (terms sp sc) * e ≤ largest_degree → weight (terms sp sc) ^ e ≤ largest_weight → 0 < e → Front (terms sp sc) ws cs n
     → most_terms ≡ length next-patterns → most_terms ≡ length next-coefficients → Raising sp sc e ws cs next-patterns next-coefficients n 1
 unfolding power power_spread
 start next-patterns next-coefficients base low light some copied next_words_room next_coefficients_room = record {
@@ -127,49 +118,48 @@ module _ {sp : List ℕ} {sc : List ℤ} {e : ℕ} {own-patterns : List ℕ} {ow
           light = heavier (weight s) (weight so_far) k e (power-weight variables s k) h r.light;
         }
 
-    -- what `multiply_in` requires of the places from 0 to n, which are `count` many
-    module _ {count : ℕ} (all-lent : count ≡ n) where
-      lent : first_terms count own-patterns own-coefficients ≡ so_far
-      lent = ap (λ (i : ℕ). first_terms i own-patterns own-coefficients) all-lent ∙ front-is r.so_far
+    -- what `multiply_in` requires of the first n places
+    lent : first_terms n own-patterns own-coefficients ≡ so_far
+    lent = front-is r.so_far
 
-      pub product-low : degree_of (terms sp sc) + degree_of (first_terms count own-patterns own-coefficients) ≤ largest_degree
-      product-low = rw lent (omega (arith, factors.low))
+    pub product-low : degree_of (terms sp sc) + degree_of (first_terms n own-patterns own-coefficients) ≤ largest_degree
+    product-low = rw lent (omega (arith, factors.low))
 
-      pub product-light : weight (terms sp sc) * weight (first_terms count own-patterns own-coefficients) ≤ largest_weight
-      product-light = rw lent (omega (arith, factors.light))
+    pub product-light : weight (terms sp sc) * weight (first_terms n own-patterns own-coefficients) ≤ largest_weight
+    product-light = rw lent (omega (arith, factors.light))
 
-      -- what it answers
-      module _ {ws : List ℕ} {cs : List ℤ} (a : declared.Formed)
-          (told : (formed_of a, ws, cs) ≡ formed_into (product_of (terms sp sc) (first_terms count own-patterns own-coefficients)) next-patterns next-coefficients) where
-        answer : (formed_of a, ws, cs) ≡ formed_into (within (product_spread so_far s) (so_far ⊗ s)) next-patterns next-coefficients
-        unfolding product_of
-        answer = told ∙ ap (λ x. formed_into x next-patterns next-coefficients) (ap (product_of s) lent ∙ product_turned s so_far)
+    -- what it answers
+    module _ {ws : List ℕ} {cs : List ℤ} (a : Option ℕ)
+        (told : (formed_of a, ws, cs) ≡ formed_into (product_of (terms sp sc) (first_terms n own-patterns own-coefficients)) next-patterns next-coefficients) where
+      answer : (formed_of a, ws, cs) ≡ formed_into (within (product_spread so_far s) (so_far ⊗ s)) next-patterns next-coefficients
+      unfolding product_of
+      answer = told ∙ ap (λ x. formed_into x next-patterns next-coefficients) (ap (product_of s) lent ∙ product_turned s so_far)
 
-        pub stops : NoTerms a → (ps : List ℕ) (ds : List ℤ) → (formed_of a, ps, ds) ≡ formed_into (power_of (terms sp sc) e) ps ds
-        unfolding power_of
-        stops key ps ds =
-            let no = refused (product_spread so_far s) (so_far ⊗ s) next-patterns next-coefficients ws cs a key answer in
-            let rises = spread-rises variables s (k + 1) e (omega arith) (omega arith) in
-            let wide = le-max_right (power_spread variables s k) (product_spread so_far s) in
-            over-into (power_spread variables s e) (power variables s e) ps ds a no.0 (omega (arith, no.1, spread-next variables s k r.some))
+      pub stops : a ≡ None → (ps : List ℕ) (ds : List ℤ) → (over, ps, ds) ≡ formed_into (power_of (terms sp sc) e) ps ds
+      unfolding power_of
+      stops none ps ds =
+          let many = refused (product_spread so_far s) (so_far ⊗ s) next-patterns next-coefficients ws cs a none answer in
+          let rises = spread-rises variables s (k + 1) e (omega arith) (omega arith) in
+          let wide = le-max_right (power_spread variables s k) (product_spread so_far s) in
+          over-into (power_spread variables s e) (power variables s e) ps ds (omega (arith, many, spread-next variables s k r.some))
 
-        pub again : {all : ℕ} → a ≡ Terms all → length ws ≡ length next-patterns → length cs ≡ length next-coefficients → Raising sp sc e ws cs ws cs all (k + 1)
-        again is same_words same_coefficients =
-            let g = given (product_spread so_far s) (so_far ⊗ s) next-patterns next-coefficients ws cs a is answer in
-            let words_room = r.next_words_room ∙ sym same_words in
-            let coefficients_room = r.next_coefficients_room ∙ sym same_coefficients in
-            record {
-              base = r.base;
-              low = r.low;
-              light = r.light;
-              so_far = rw (power-next variables s k r.some)
-                  (front-written next-patterns next-coefficients g.words_are g.coefficients_are g.many (product-holdable factors g.few) words_room coefficients_room);
-              narrow = rw (spread-next variables s k r.some) (max-le r.narrow g.few);
-              some = omega arith;
-              inside = omega arith;
-              next_words_room = words_room;
-              next_coefficients_room = coefficients_room;
-            }
+      pub again : {all : ℕ} → a ≡ Some all → length ws ≡ length next-patterns → length cs ≡ length next-coefficients → Raising sp sc e ws cs ws cs all (k + 1)
+      again is same_words same_coefficients =
+          let g = given (product_spread so_far s) (so_far ⊗ s) next-patterns next-coefficients ws cs a is answer in
+          let words_room = r.next_words_room ∙ sym same_words in
+          let coefficients_room = r.next_coefficients_room ∙ sym same_coefficients in
+          record {
+            base = r.base;
+            low = r.low;
+            light = r.light;
+            so_far = rw (power-next variables s k r.some)
+                (front-written next-patterns next-coefficients g.words_are g.coefficients_are g.many (product-holdable factors g.few) words_room coefficients_room);
+            narrow = rw (spread-next variables s k r.some) (max-le r.narrow g.few);
+            some = omega arith;
+            inside = omega arith;
+            next_words_room = words_room;
+            next_coefficients_room = coefficients_room;
+          }
 
   pub ended : e ≤ k → (ps : List ℕ) (ds : List ℤ) {ps' : List ℕ} {ds' : List ℤ} → ps' ≡ written (take n own-patterns) ps → ds' ≡ written (take n own-coefficients) ds
       → (formed n, ps', ds') ≡ formed_into (power_of (terms sp sc) e) ps ds

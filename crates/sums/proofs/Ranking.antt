@@ -15,8 +15,9 @@ use Rattle.algebra.specs.Inside.Rank.{rank_of, word_at, words_at}
 use Rattle.algebra.proofs.Patterns.Rank.{rank-of-word, ranks-fit, rank-product, words-at, words-set, words-again}
 use Rattle.answers.specs.Areas.{written}
 use Rattle.answers.proofs.Writes.{written-front}
+use Rattle.sums.specs.Held.{Held}
 use Rattle.sums.specs.Rows.{CanMerge, joined, closed, Gapped}
-use Rattle.sums.proofs.Holding.{map-take, map-drop}
+use Rattle.sums.proofs.Holding.{map-take, map-drop, each-valid}
 use Rattle.sums.proofs.Standing.{last_stands}
 use Rattle.sums.proofs.Moving as moving
 use Rattle.sums.proofs.Moving.{Moving}
@@ -26,6 +27,10 @@ use Rattle.sums.proofs.Moving.{Moving}
 -- the ranks of valid words, in the first places of an area
 pub ranked-words : (ws ks₀ : List ℕ) {ks : List ℕ} {count : ℕ} → EachValid ws → ks ≡ written (map rank_of ws) ks₀ → length ws ≡ count → words_at (take count ks) ≡ ws
 ranked-words ws ks₀ each is many = ap words_at (written-front (map rank_of ws) ks₀ is (length-map ws rank_of ∙ many)).0 ∙ words-again ws each
+
+-- those of terms that are held
+pub ranked-held : {ws : List ℕ} {cs : List ℤ} → Held ws cs → (ks₀ : List ℕ) {ks : List ℕ} → ks ≡ written (map rank_of ws) ks₀ → words_at (take (length ws) ks) ≡ ws
+ranked-held {ws} held ks₀ is = ranked-words ws ks₀ (each-valid held) is refl
 
 -- numbers of 64 bits whose words are valid are the ranks of these
 pub front-ranks : (n : ℕ) (ks : List ℕ) → ((i : ℕ) → get_or ks i 0 < 2 ^ 64) → EachValid (take n (words_at ks)) → take n ks ≡ map rank_of (take n (words_at ks))

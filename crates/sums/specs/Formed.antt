@@ -1,23 +1,21 @@
 -- A sum that is formed of others: it is given only where no spread on the way is above 128.
-use Rattle.std.specs.Prelude.{cond, List, ◌++◌, ℕ, leb, ℤ, length}
+use Rattle.std.specs.Prelude.{cond, List, ◌++◌, ℕ, Option, Some, None, leb, ℤ, length}
 use Rattle.algebra.specs.Limits.{variables, most_terms}
 use Rattle.algebra.specs.Sum.{Sum}
 use Rattle.algebra.specs.Collect.{gather, spread}
 use Rattle.algebra.specs.Arithmetic.{◌⊕◌, sum_spread, ◌⊗◌, product_spread, power, power_spread}
 use Rattle.algebra.specs.Held.{words_of, coefficients_of}
 use Rattle.answers.specs.Areas.{written}
-use Rattle.sums.specs.declared.Formed as declared
-use Rattle.sums.specs.declared.Formed.TheVariants.{Terms, Over}
 
 pub data Formed (A : Type 0) : Type 0 where
   formed : A → Formed A
   -- a spread is above 128
   over : Formed A
 
--- what each case of the code's enum tells: the number of terms
-abbrev pub formed_of : declared.Formed → Formed ℕ
-formed_of (Terms n) = formed n
-formed_of Over = over
+-- what the code's answer tells: the number of terms
+abbrev pub formed_of : Option ℕ → Formed ℕ
+formed_of (Some n) = formed n
+formed_of None = over
 
 unfoldable pub within : ℕ → Sum → Formed Sum
 within m s = cond (leb m most_terms) (formed s) over

@@ -1,27 +1,30 @@
 -- What the operation on typed formulas answers, check by check, and what stands in the table that it lays out first.
 use mathlib.Core.Path.{◌≡◌, ◌∙◌, ap}
 use mathlib.Core.Bool.{true}
-use mathlib.Core.List.{List}
-use Prim.Native.Nat.{ℕ, ◌*◌, ◌≤◌, ◌<◌}
+use mathlib.Core.List.{List, map}
+use Prim.Native.Nat.{ℕ, ◌≤◌, ◌<◌}
 use native.Mathlib.Omega.{arith}
 use lib.Dec.{leb}
 use lib.IntN.{ℤ}
-use lib.ListN.{length, take}
-use lib.Seq.{sets, length-sets, sets-eq, take_at}
+use lib.ListN.{length, take, replicate, length-replicate}
+use lib.Seq.{sets, sets-eq, take_at}
 use borrow.Author.Tests.{le-leb, lt-leb}
 use Rattle.algebra.specs.Limits.{most_nodes}
 use Rattle.answers.specs.Refusals.{ROOM, TEXT, NODES}
 use Rattle.answers.specs.Answers.{Told.done, Told.refused, outcome}
 use Rattle.answers.specs.Areas.{written}
 use Rattle.answers.specs.Judge.{Judged.good, Judged.fails, holding, and_then}
-use Rattle.nodes.specs.Node.{table_of}
-use Rattle.formula.proofs.Passing.{table-length}
+use Rattle.std.specs.List.{flat_map}
+use Rattle.std.proofs.lemmas.List.{length-map}
+use Rattle.nodes.specs.Node.{numbers_of, table_of}
+use Rattle.text.specs.declared.laying.Layout.{Layout}
 use Rattle.text.specs.Limits.{longest_text, table_places}
 use Rattle.text.specs.Tree.{Tree, node_count, nodes_of}
 use Rattle.text.specs.Reader.{span, read_whole}
 use Rattle.text.specs.Text.{judge_text, table_into, read_formula}
 use Rattle.text.specs.Inside.Laid.{Part}
 use Rattle.text.proofs.Trees.{nodes-length}
+use Rattle.text.proofs.Nodes.{rows-table}
 
 -- ---- The checks.
 
@@ -58,20 +61,17 @@ module _ (text : List ℕ) (table : List ℤ) where
 
 -- ---- A tree laid out in a table of its own: the numbers of its nodes stand in front.
 
-pub record LaidOut (t : Tree) (nodes : ℕ) (own : List ℤ) : Type 0 where
+pub record LaidOut (t : Tree) (nodes : ℕ) (own : List (List ℤ)) : Type 0 where
   pub many : nodes ≡ node_count t
-  pub places : length own ≡ table_places
-  pub front : take (3 * nodes) own ≡ table_of (nodes_of 0 t)
+  pub front : flat_map (λ x. x) (take nodes own) ≡ table_of (nodes_of 0 t)
 
-pub stands : (text : List ℕ) (own own' : List ℤ) {t : Tree} {next nodes : ℕ} → length own ≡ table_places → Part text 0 0 own (span t next) next nodes own'
-    → nodes ≤ most_nodes → LaidOut t nodes own'
-stands text own own' {t} {nodes = nodes} e w few =
-    let numbers = table_of (nodes_of 0 t) in
-    let many : nodes ≡ node_count t = omega (arith, w.count_is) in
-    let long : length numbers ≡ 3 * nodes = omega (arith, table-length (nodes_of 0 t), nodes-length 0 t) in
-    let is : own' ≡ sets own 0 numbers = w.laid (omega arith) in
-    record {
-      many = many;
-      places = ap length is ∙ length-sets own 0 numbers ∙ e;
-      front = ap (take (3 * nodes)) (is ∙ sets-eq numbers own 0 (omega arith)) ∙ take_at numbers _ (3 * nodes) long;
-    }
+pub stands : (text : List ℕ) (a b : Layout) {t : Tree} {next : ℕ} {none : List ℤ} → a.rows ≡ replicate most_nodes none → a.nodes ≡ 0
+    → Part text 0 a.nodes a.rows (span t next) next b.nodes b.rows → b.nodes ≤ most_nodes → LaidOut t b.nodes b.rows
+stands text a b {t} {none = none} new zero w few =
+    let rows = map numbers_of (nodes_of 0 t) in
+    let many : b.nodes ≡ node_count t = omega (arith, w.count_is) in
+    let long : length rows ≡ b.nodes = omega (arith, length-map (nodes_of 0 t) numbers_of, nodes-length 0 t) in
+    let places : length a.rows ≡ most_nodes = ap length new ∙ length-replicate most_nodes none in
+    let is : b.rows ≡ sets a.rows 0 rows = rw zero at (w.laid (omega arith)) in
+    let front : take b.nodes b.rows ≡ rows = ap (take b.nodes) (is ∙ sets-eq rows a.rows 0 (omega arith)) ∙ take_at rows _ b.nodes long in
+    record { many = many; front = rw front (rows-table (nodes_of 0 t)) }

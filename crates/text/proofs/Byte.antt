@@ -60,10 +60,6 @@ pub digit-is : (b : ℕ) → zero_digit ≤ b → b ≤ nine_digit → is_digit 
 unfolding is_digit
 digit-is b h k = rw (le-leb zero_digit b h, le-leb b nine_digit k)
 
-pub below-digits : (b : ℕ) → b < zero_digit → is_digit b ≡ false
-unfolding is_digit
-below-digits b h = rw (lt-leb zero_digit b h)
-
 pub above-digits : (b : ℕ) → nine_digit < b → is_digit b ≡ false
 unfolding is_digit
 above-digits b h = rw (le-leb zero_digit b (omega arith), lt-leb b nine_digit h)

@@ -1,39 +1,24 @@
 -- The numbers of a text: when one takes a digit more, what is read then, and how far it reaches.
-use mathlib.Core.Path.{◌≡◌, refl, sym, ◌∙◌}
+use mathlib.Core.Path.{◌≡◌, refl, sym}
 use mathlib.Core.Bool.{true, false, ◌&&◌, and-false}
 use mathlib.Core.List.{List, [], ◌∷◌}
-use Prim.Native.Nat.{ℕ, ◌+◌, ◌-◌, ◌*◌, ◌/◌, ◌≤◌, ◌<◌}
+use Prim.Native.Nat.{ℕ, ◌+◌, ◌-◌, ◌*◌, ◌≤◌, ◌<◌}
 use native.Mathlib.Omega.{arith}
 use lib.Dec.{T, leb, leb→le}
 use lib.ListN.{length, drop, length-drop}
-use borrow.Author.Tests.{le-leb, lt-leb, leb-true, leb-false}
+use borrow.Author.Tests.{le-leb}
 use lib.Ieee.Fits.{and_l, and_r}
 use lib.Ieee.Bits.{is_true}
 use Rattle.text.specs.Signs.{zero_digit, is_digit}
 use Rattle.text.specs.Reader.{byte_at, takes, more_digits, digits_at}
 use Rattle.text.proofs.Byte.{decide, passes-inside, from_byte, first_byte, digit-from, digit-to}
 
--- ---- Whether a number takes a digit more, as the code finds it.
+-- ---- Whether a number takes a digit more.
 
 module _ (top v b : ℕ) where
-  pub zero-takes-none : v ≡ 0 → false ≡ takes top v b
-  unfolding takes
-  zero-takes-none z = rw (lt-leb 1 v (omega arith))
-
   pub only-digits : is_digit b ≡ false → false ≡ takes top v b
   unfolding takes
   only-digits e = rw e (sym (and-false (leb 1 v)))
-
-  -- v ≤ (top - d) / 10 says that v * 10 + d ≤ top
-  tenth : (d : ℕ) → d ≤ top → leb v ((top - d) / 10) ≡ leb (v * 10 + d) top
-  tenth d h =
-      decide (leb v ((top - d) / 10))
-      (λ e. e ∙ sym (le-leb (v * 10 + d) top (omega (arith, leb-true v ((top - d) / 10) e))))
-      (λ e. e ∙ sym (lt-leb (v * 10 + d) top (omega (arith, leb-false v ((top - d) / 10) e))))
-
-  pub takes-within : 1 ≤ v → is_digit b ≡ true → 9 ≤ top → leb v ((top - (b - zero_digit)) / 10) ≡ takes top v b
-  unfolding takes
-  takes-within h e t = rw (le-leb 1 v h, e) (tenth (b - zero_digit) (omega (arith, digit-to b e)))
 
   -- ---- What it says that b is taken.
 

@@ -19,7 +19,7 @@ use Rattle.text.proofs.Nodes.{lays_one, lays-append, laid_more}
 
 -- ---- Numbers and letters.
 
-module _ (s : List ℕ) (at n : ℕ) (c : List ℤ) {d : List ℤ} {next : ℕ} (ahead : at < next) (within : next ≤ length s) where
+module _ (s : List ℕ) (at n : ℕ) (c : List (List ℤ)) {d : List (List ℤ)} {next : ℕ} (ahead : at < next) (within : next ≤ length s) where
   leaf-part : (t : Tree) (k : Kind) → node_count t ≡ 1 → nodes_of n t ≡ k ∷ [] → d ≡ put_node c n k → Part s at n c (span t next) next (n + 1) d
   leaf-part t k one own put = record {
     next_is = refl;
@@ -40,11 +40,11 @@ module _ (s : List ℕ) (at n : ℕ) (c : List ℤ) {d : List ℤ} {next : ℕ} 
 
 -- ---- What was read has more bytes around it, is raised, or has a sign.
 
-module _ {s : List ℕ} {at n : ℕ} {c d : List ℤ} {t : Tree} {next count : ℕ} (w : Part s at n c (span t next) next count d) where
+module _ {s : List ℕ} {at n : ℕ} {c d : List (List ℤ)} {t : Tree} {next count : ℕ} (w : Part s at n c (span t next) next count d) where
   pub moved : {from end : ℕ} → from ≤ at → next ≤ end → end ≤ length s → Part s from n c (span t end) end count d
   moved h k within = record { next_is = refl; count_is = w.count_is; laid = w.laid; ahead = omega arith; within = within; few = omega arith }
 
-  pub raised-part : (e : ℕ) {end : ℕ} {d' : List ℤ} → next < end → end ≤ length s → d' ≡ put_node d count (power (count - 1) e)
+  pub raised-part : (e : ℕ) {end : ℕ} {d' : List (List ℤ)} → next < end → end ≤ length s → d' ≡ put_node d count (power (count - 1) e)
       → Part s at n c (span (raised t e) end) end (count + 1) d'
   unfolding node_count nodes_of
   raised-part e {d' = d'} ahead within put = record {
@@ -74,8 +74,8 @@ module _ {s : List ℕ} {at n : ℕ} {c d : List ℤ} {t : Tree} {next count : �
           → Part s from n c (span (cond m (minus t) t) next) next (cond m (count + 2) count)
           (cond m (put_node (put_node d count one) (count + 1) opposite) d)
       go true few =
-          let first : List ℤ = put_node d count one in
-          let both : List ℤ = put_node first (count + 1) opposite in
+          let first : List (List ℤ) = put_node d count one in
+          let both : List (List ℤ) = put_node first (count + 1) opposite in
           record {
             next_is = refl;
             count_is = omega arith;
@@ -120,7 +120,7 @@ module _ (s : List ℕ) (at : ℕ) where
   unfolding signed_count after_minus
   start-count count = decide (eqb (byte_at s at) minus_sign) (λ e. rw e (omega arith)) (λ e. rw e (omega arith))
 
-  module _ {n : ℕ} {c d : List ℤ} {t : Tree} {next count : ℕ} where
+  module _ {n : ℕ} {c d : List (List ℤ)} {t : Tree} {next count : ℕ} where
     pub first_part : Part s (after_minus s at) n c (span t next) next count d
         → Part s at n c (span (signed (byte_at s at) t) next) next (signed_count (byte_at s at) count) (signed_table (byte_at s at) count d)
     first_part w = signed_part w (byte_at s at) at start-ahead (start-count count)
@@ -145,9 +145,9 @@ pub products : Joint times product
 unfolding node_count nodes_of
 products = record { sizes = λ t u. refl; nodes = λ n t u. refl }
 
-module _ {join : Tree → Tree → Tree} {kind : ℕ → ℕ → Kind} (j : Joint join kind) {s : List ℕ} {at n : ℕ} {c d : List ℤ} {t : Tree} {next count : ℕ}
+module _ {join : Tree → Tree → Tree} {kind : ℕ → ℕ → Kind} (j : Joint join kind) {s : List ℕ} {at n : ℕ} {c d : List (List ℤ)} {t : Tree} {next count : ℕ}
     (w : Part s at n c (span t next) next count d) where
-  pub joined-part : {from end more : ℕ} {u : Tree} {e f : List ℤ} → next ≤ from → Part s from count d (span u end) end more e
+  pub joined-part : {from end more : ℕ} {u : Tree} {e f : List (List ℤ)} → next ≤ from → Part s from count d (span u end) end more e
       → f ≡ put_node e more (kind (count - 1) (more - 1)) → Part s at n c (span (join t u) end) end (more + 1) f
   joined-part {more = more} {u} {e} {f} h v put =
       let own : Kind = kind (count - 1) (more - 1) in

@@ -26,3 +26,4 @@ pub mod TreePasses
 pub mod Fitting
 pub mod Typing
 pub mod Joining
+pub mod Rules

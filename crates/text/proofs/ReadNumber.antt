@@ -29,7 +29,7 @@ module _ (top : ℕ) (s : List ℕ) where
       record { takes_it = t; least = digit-from (byte_at s next) p.digit; small = p.within; within = digit-inside s next p.digit }
 
   module _ (at : ℕ) where
-    pub start : {b : ℕ} → b ≡ byte_at s at → is_digit (byte_at s at) ≡ true → 9 ≤ top → Reading top s at (b - zero_digit) (at + 1)
+    pub start : {v : ℕ} → v ≡ byte_at s at - zero_digit → is_digit (byte_at s at) ≡ true → 9 ≤ top → Reading top s at v (at + 1)
     unfolding digits_at
     start e d h = record {
       whole = rw e;
@@ -47,3 +47,5 @@ module _ (top : ℕ) (s : List ℕ) where
 
       pub ended : takes top v (byte_at s next) ≡ false → Number top s at v next
       ended t = let e = sym (more-stops top s v next t) ∙ r.whole in (ap (λ (n : Digits). n.value) e, ap (λ (n : Digits). n.next) e)
+
+pub ruleset reading = (digit-from, digit-inside, taken, start, again, ended)

@@ -1,56 +1,81 @@
-// Nodes put into a table, as long as it has places.
-ghost use Rattle.std.specs.Prelude.{◌≡◌, [], ◌∷◌, ◌*◌, ◌≤◌, ◌<◌, T};
-ghost use Rattle.std.proofs.lemmas.List.Edits.{sets};
+// A table that is laid out node by node.
+ghost use Rattle.std.specs.Prelude.{◌≡◌, ◌+◌, ◌-◌, ◌*◌, ◌≤◌, T, pos, replicate};
 ghost use Rattle.algebra.specs.Limits.{most_nodes};
-ghost use Rattle.nodes.specs.Node.{is_node};
+ghost use Rattle.nodes.specs.Node.{is_node, numbers_of};
 ghost use Rattle.nodes.specs.Inside.Code.{kind_of};
 ghost use Rattle.text.specs.Limits.{longest_text};
 ghost use Rattle.text.specs.Inside.Laid.{put_node, signed_count, signed_table};
 
-use crate::TABLE_PLACES;
 use algebra::MOST_NODES;
 use nodes::Kind;
 
-fn write(table: &mut [i64; TABLE_PLACES], n: usize, kind: i64, first: i64, second: i64)
-    requires { n < most_nodes }
-    ensures { table.new ≡ sets table.old (3 * n) (kind ∷ first ∷ second ∷ []) }
-{
-    table[3 * n] = kind;
-    table[3 * n + 1] = first;
-    table[3 * n + 2] = second;
+// The three numbers of each node, and how many nodes were put. A node past the last row is counted and left out: the caller refuses the formula in the end.
+#[derive(Drop)]
+pub struct Layout {
+    pub rows: [[i64; 3]; MOST_NODES],
+    pub nodes: usize,
 }
 
-// Node n of a formula. A node past the last place is left out: the caller counts it, and refuses the formula in the end.
-pub(crate) fn put(table: &mut [i64; TABLE_PLACES], n: usize, node: Kind)
-    requires { T (is_node n (kind_of node)) }
-    ensures { table.new ≡ put_node table.old n (kind_of node) }
+// The three numbers of a node. The kinds' numbers are 01's table, which C lends.
+fn numbers_of(node: Kind) -> [i64; 3]
+    requires { T (is_node most_nodes (kind_of node)) }
+    ensures { result ≡ numbers_of (kind_of node) }
 {
-    if n >= MOST_NODES {
-        return;
-    }
     match node {
-        Kind::Integer(value) => write(table, n, 0, value, 0),
-        Kind::Variable(v) => write(table, n, 1, v as i64, 0),
-        Kind::Sum(a, b) => write(table, n, 2, a as i64, b as i64),
-        Kind::Product(a, b) => write(table, n, 3, a as i64, b as i64),
-        Kind::Power(a, e) => write(table, n, 4, a as i64, e as i64),
+        Kind::Integer(value) => [0, value, 0],
+        Kind::Variable(v) => [1, v as i64, 0],
+        Kind::Sum(a, b) => [2, a as i64, b as i64],
+        Kind::Product(a, b) => [3, a as i64, b as i64],
+        Kind::Power(a, e) => [4, a as i64, e as i64],
     }
 }
 
-// A term was read, and its own node is the last of `count`. If its sign is a minus, integer -1 is put, and the product of both. It answers the number of
-// nodes then.
-pub(crate) fn put_sign(table: &mut [i64; TABLE_PLACES], count: usize, sign: u8) -> usize
-    requires le_count { 1 ≤ count }
-    requires count_bound { count ≤ 2 * longest_text }
-    ensures value { result ≡ signed_count sign count }
-    ensures table_after { table.new ≡ signed_table sign count table.old }
-{
-    if sign != b'-' {
-        return count;
+impl Layout {
+    pub(crate) fn new() -> Layout
+        ensures rows { result.rows ≡ replicate most_nodes (replicate 3 (pos 0)) }
+        ensures none { result.nodes ≡ 0 }
+    {
+        Layout {
+            rows: [[0; 3]; MOST_NODES],
+            nodes: 0,
+        }
     }
-    let minus_one = Kind::Integer(-1);
-    put(table, count, minus_one);
-    let product = Kind::Product(count, count - 1);
-    put(table, count + 1, product);
-    count + 2
+
+    // The node that was put last.
+    pub(crate) fn last(&self) -> usize
+        requires { 1 ≤ self.now.nodes }
+        ensures { result ≡ self.now.nodes - 1 }
+    {
+        self.nodes - 1
+    }
+
+    #[tactic(auto, unfolding(crate::specs::Inside::Laid::put_node))]
+    pub(crate) fn put(&mut self, node: Kind)
+        requires at_place { T (is_node self.old.nodes (kind_of node)) }
+        requires few { self.old.nodes ≤ 2 * longest_text + 1 }
+        ensures rows_are { self.new.rows ≡ put_node self.old.rows self.old.nodes (kind_of node) }
+        ensures one_more { self.new.nodes ≡ self.old.nodes + 1 }
+    {
+        let n = self.nodes;
+        self.nodes = n + 1;
+        if n < MOST_NODES {
+            self.rows[n] = numbers_of(node);
+        }
+    }
+
+    // A term was read, and its own node is the last. If its sign is a minus, integer -1 is put, and the product of both.
+    #[tactic(auto, unfolding(crate::specs::Inside::Laid::signed_count, crate::specs::Inside::Laid::signed_table))]
+    pub(crate) fn put_sign(&mut self, sign: u8)
+        requires some { 1 ≤ self.old.nodes }
+        requires few { self.old.nodes ≤ 2 * longest_text }
+        ensures nodes_are { self.new.nodes ≡ signed_count sign self.old.nodes }
+        ensures rows_are { self.new.rows ≡ signed_table sign self.old.nodes self.old.rows }
+    {
+        if sign == b'-' {
+            let term = self.last();
+            self.put(Kind::Integer(-1));
+            let minus_one = self.last();
+            self.put(Kind::Product(minus_one, term));
+        }
+    }
 }

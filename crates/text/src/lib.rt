@@ -7,13 +7,13 @@ ghost use Rattle.answers.specs.Answers.{told, outcome};
 ghost use Rattle.text.specs.Text.{read_formula};
 
 use algebra::MOST_NODES;
-use answers::{Answer, Refusal, areas};
+use answers::{Answer, Refusal};
 
 mod bytes;
 mod laying;
 mod readers;
 
-use readers::Read;
+use laying::Layout;
 
 // In bytes.
 pub const LONGEST_TEXT: usize = 1024;
@@ -24,29 +24,26 @@ const DEEPEST: usize = 16;
 // Three places for each node.
 pub const TABLE_PLACES: usize = 3 * MOST_NODES;
 
-// A typed formula becomes a table. It is laid out in a table of its own first, so that the caller's changes only when all is well.
+// A typed formula becomes a table. It is laid out apart first, so that the caller's table changes only when all is well.
 pub fn read_formula(text: &[u8], table: &mut [i64]) -> Answer
     ensures { outcome (told result) table.new ≡ read_formula text.now table.old }
 {
     if table.len() < TABLE_PLACES {
-        return Answer::Refused(Refusal::Room, 0);
+        return Err(Refusal::Room.at(0));
     }
     if text.len() > LONGEST_TEXT {
-        return Answer::Refused(Refusal::Text, LONGEST_TEXT);
+        return Err(Refusal::Text.at(LONGEST_TEXT));
     }
-    let mut own = [0i64; TABLE_PLACES];
-    let read = readers::read_sum(text, 0, DEEPEST, &mut own, 0);
-    match read {
-        Read::Fault(place) => Answer::Refused(Refusal::Text, place),
-        Read::At(next, nodes) => {
-            if next < text.len() {
-                return Answer::Refused(Refusal::Text, next);
-            }
-            if nodes > MOST_NODES {
-                return Answer::Refused(Refusal::Nodes, 0);
-            }
-            areas::copy_coefficients(table, &own, 3 * nodes);
-            Answer::Done(nodes)
-        }
+    let mut layout = Layout::new();
+    let read = readers::read_sum(text, 0, DEEPEST, &mut layout);
+    let next = read.map_err(|place| Refusal::Text.at(place))?;
+    if next < text.len() {
+        return Err(Refusal::Text.at(next));
     }
+    if layout.nodes > MOST_NODES {
+        return Err(Refusal::Nodes.at(0));
+    }
+    let written = layout.rows[..layout.nodes].as_flattened();
+    table[..written.len()].copy_from_slice(written);
+    Ok(layout.nodes)
 }

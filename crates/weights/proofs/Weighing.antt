@@ -1,9 +1,9 @@
 -- Weights above 2^62 are found without overflow: they are only told apart from those that are allowed.
 use mathlib.Core.Path.{◌≡◌, refl, sym, ◌∙◌, ap}
-use Prim.Native.Nat.{ℕ, zero, suc, ◌+◌, ◌*◌, ◌^◌, ◌/◌, ◌%◌, ◌-◌, ◌≤◌, ◌<◌}
+use Prim.Native.Nat.{ℕ, zero, suc, ◌+◌, ◌*◌, ◌^◌, ◌≤◌, ◌<◌}
 use native.Mathlib.Omega.{arith}
 use native.Mathlib.Decide.{dec_lt, ℕ_discrete}
-use native.Mathlib.Nat.{min-eq_left, min-eq_right, mul-le-mul, mul-le-mul_left, mul_comm, mul_right_comm, add-mul, mul-zero, pow-zero, pow-suc, one-mul}
+use native.Mathlib.Nat.{min-eq_left, min-eq_right, mul-le-mul_left, mul_comm, mul-zero, pow-zero, pow-suc, one-mul}
 use native.Mathlib.Numerals.{add-one}
 use Rattle.algebra.specs.Limits.{largest_weight}
 use Rattle.weights.specs.Capped.{capped}
@@ -21,45 +21,10 @@ capped-light v w e h = omega (arith, e)
 pub capped-heavy : (v w : ℕ) → v ≡ capped w → largest_weight < v → largest_weight < w
 capped-heavy v w e h = omega (arith, e)
 
--- ---- A product, half by half.
+-- ---- Capped before an operation, or after it.
 
 positive : (v : ℕ) → (v ≡ 0 → ⊥) → 0 < v
 positive v some = omega (arith, some)
-
-abbrev half : ℕ
-half = 2 ^ 32
-
--- numbers of half a word are multiplied in one
-pub halves-fit : {m n : ℕ} → m < half → n < half → m * n < 2 ^ 64
-halves-fit {m} {n} h k =
-    let low : m ≤ half - 1 = omega arith in
-    let low' : n ≤ half - 1 = omega arith in
-    omega (arith, mul-le-mul low low')
-
--- and the product of two that are smaller by half is a weight
-pub small-light : {m n : ℕ} → m < half / 2 → n < half / 2 → m * n ≤ largest_weight
-small-light {m} {n} h k =
-    let low : m ≤ half / 2 = omega arith in
-    let low' : n ≤ half / 2 = omega arith in
-    omega (arith, mul-le-mul low low')
-
-module _ (v w : ℕ) where
-  pub halves : v * w ≡ v / half * w * half + v % half * w
-  halves =
-      let parts : v ≡ v / half * half + v % half = omega arith in
-      ap (λ (n : ℕ). n * w) parts ∙ add-mul (v / half * half) (v % half) w ∙ ap (λ (n : ℕ). n + v % half * w) (mul_right_comm (v / half) half w)
-
-  pub high-heavy : largest_weight / half < v / half * w → largest_weight < v * w
-  high-heavy h = omega (arith, halves)
-
-  pub low-heavy : largest_weight < v % half * w → largest_weight < v * w
-  low-heavy h = omega (arith, halves)
-
--- and two numbers of more than that have a product above every weight
-pub both-heavy : {v w : ℕ} → half ≤ v → half ≤ w → largest_weight < v * w
-both-heavy {v} {w} h k =
-    let least : half * half ≤ v * w = mul-le-mul h k in
-    omega (arith, least)
 
 -- a factor may be capped before
 pub capped-times : (x w : ℕ) → capped (capped x * w) ≡ capped (x * w)
@@ -89,9 +54,6 @@ capped-plus-right x w = omega arith
 pub record Raising (w e power k : ℕ) : Type 0 where
   pub so_far : power ≡ capped (w ^ k)
   pub inside : k ≤ e
-
-pub none-raised : (w : ℕ) → 1 ≡ capped (w ^ 0)
-none-raised w = ap capped (sym (pow-zero w))
 
 -- the powers of 0 and of 1 are the number itself, from the first one on
 low-square : (w : ℕ) → w ≤ 1 → w * w ≡ w

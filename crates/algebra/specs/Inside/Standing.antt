@@ -1,9 +1,9 @@
 -- The answers of the code's comparison, as those of the term order.
 use Prim.Native.Nat.{Ordering}
-use Rattle.algebra.specs.declared.Standing.{Standing}
-use Rattle.algebra.specs.declared.Standing.TheVariants.{Before, Same, After}
+use Rattle.std.specs.declared.cmp.Ordering as code
+use Rattle.std.specs.declared.cmp.Ordering.TheVariants.{Less, Equal, Greater}
 
-abbrev pub standing : Standing → Ordering
-standing Before = Ordering.lt
-standing Same = Ordering.eq
-standing After = Ordering.gt
+abbrev pub standing : code.Ordering → Ordering
+standing Less = Ordering.lt
+standing Equal = Ordering.eq
+standing Greater = Ordering.gt

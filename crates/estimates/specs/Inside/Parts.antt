@@ -1,55 +1,40 @@
 -- What the code keeps of a product, and of a sum, at the readings x and at the raised readings y.
-use Rattle.std.specs.Prelude.{◌≡◌, List, ℕ, ◌+◌, ◌*◌, ◌^◌, ◌≤◌, ◌<◌, ℤ, pos, nat_abs, ◌+ℤ◌, ◌*ℤ◌, length, get_or}
+use Rattle.std.specs.Prelude.{◌≡◌, List, ℕ, ◌+◌, ◌*◌, ◌^◌, ◌≤◌, ℤ, nat_abs, ◌+ℤ◌, ◌*ℤ◌}
 use Rattle.std.proofs.Math.IntN.{pow}
-use Rattle.algebra.specs.Limits.{variables, largest_weight}
+use Rattle.algebra.specs.Limits.{largest_weight}
 use Rattle.algebra.specs.Sum.{Sum}
 use Rattle.algebra.specs.Value.{value}
 use Rattle.algebra.specs.Margin.{size, unsigned}
 use Rattle.weights.specs.Capped.{capped}
-
--- a reading for each variable, and a raised one that is no smaller
-pub record Covers (x : List ℤ) (y : List ℕ) : Type 0 where
-  pub readings_long : length x ≡ variables
-  pub raised_long : length y ≡ variables
-  pub no_smaller : (v : ℕ) → v < variables → nat_abs (get_or x v (pos 0)) ≤ get_or y v 0
-
--- A raised product m, and the product n at the readings, however large they are: the first as a weight is kept, and the second where the first is allowed.
-pub record Holds (most : ℕ) (product : ℤ) (m : ℕ) (n : ℤ) : Type 0 where
-  pub most_is : capped most ≡ capped m
-  pub product_is : m ≤ largest_weight → product ≡ n
-  pub within : nat_abs n ≤ m
-
--- two numbers that are kept of some products
-pub record Sound (most : ℕ) (product : ℤ) : Type 0 where
-  pub m : ℕ
-  pub n : ℤ
-  pub holds : Holds most product m n
+use Rattle.estimates.specs.declared.factors.Both.{Both}
+use Rattle.estimates.specs.declared.valuing.Parts.{Parts}
+use Rattle.estimates.specs.Inside.Held.{Holds}
 
 -- whatever two pairs are kept of, the third is kept of the products
-abbrev pub Times : ℕ → ℤ → ℕ → ℤ → ℕ → ℤ → Type 0
-Times most product raised reading most' product' =
-    (m m' : ℕ) (n n' : ℤ) → Holds most product m n → Holds raised reading m' n' → Holds most' product' (m * m') (n *ℤ n')
+abbrev pub Times : Both → Both → Both → Type 0
+Times a b result =
+    (m m' : ℕ) (n n' : ℤ) → Holds a.most a.value m n → Holds b.most b.value m' n' → Holds result.most result.value (m * m') (n *ℤ n')
 
 -- the same of a pair and of a power of two numbers
-abbrev pub TimesPower : ℕ → ℤ → ℕ → ℤ → ℕ → ℕ → ℤ → Type 0
-TimesPower most product raised reading e most' product' = (m : ℕ) (n : ℤ) → Holds most product m n → Holds most' product' (m * raised ^ e) (n *ℤ pow reading e)
+abbrev pub TimesPower : Both → ℕ → ℤ → ℕ → Both → Type 0
+TimesPower a raised reading e result = (m : ℕ) (n : ℤ) → Holds a.most a.value m n → Holds result.most result.value (m * raised ^ e) (n *ℤ pow reading e)
 
 -- The raised value of a sum, as a weight is kept; and where it is allowed, the value at the readings, and that with all signs dropped.
-pub record Keeps (most : ℕ) (estimate : ℤ) (plain : ℕ) (s : Sum) (x : List ℤ) (y : List ℕ) : Type 0 where
-  pub most_is : capped most ≡ capped (size s y)
-  pub estimate_is : most ≤ largest_weight → estimate ≡ value s x
-  pub plain_is : most ≤ largest_weight → plain ≡ size s (unsigned x)
+pub record Keeps (kept : Parts) (s : Sum) (x : List ℤ) (y : List ℕ) : Type 0 where
+  pub most_is : capped kept.most ≡ capped (size s y)
+  pub estimate_is : kept.most ≤ largest_weight → kept.estimate ≡ value s x
+  pub plain_is : kept.most ≤ largest_weight → kept.plain ≡ size s (unsigned x)
 
 -- ---- One term after another.
 
 -- what is kept of the terms so far
-pub record Allowed (most : ℕ) (estimate : ℤ) (plain : ℕ) : Type 0 where
-  pub most_allowed : most ≤ largest_weight
-  pub plain_within : plain ≤ most
-  pub estimate_within : nat_abs estimate ≤ plain
+pub record Allowed (kept : Parts) : Type 0 where
+  pub most_allowed : kept.most ≤ largest_weight
+  pub plain_within : kept.plain ≤ kept.most
+  pub estimate_within : nat_abs kept.estimate ≤ kept.plain
 
--- and with one term more, of which `raised` and `product` are kept
-pub record Added (most : ℕ) (estimate : ℤ) (plain raised : ℕ) (product : ℤ) (most' : ℕ) (estimate' : ℤ) (plain' : ℕ) : Type 0 where
-  pub most_is : capped most' ≡ capped (most + raised)
-  pub estimate_is : most' ≤ largest_weight → estimate' ≡ estimate +ℤ product
-  pub plain_is : most' ≤ largest_weight → plain' ≡ plain + nat_abs product
+-- and with one term more
+pub record Added (kept : Parts) (term : Both) (result : Parts) : Type 0 where
+  pub most_is : capped result.most ≡ capped (kept.most + term.most)
+  pub estimate_is : result.most ≤ largest_weight → result.estimate ≡ kept.estimate +ℤ term.value
+  pub plain_is : result.most ≤ largest_weight → result.plain ≡ kept.plain + nat_abs term.value

@@ -6,15 +6,11 @@ use Rattle.formula.proofs.Simplifying.{simplify-worked}
 use Rattle.formula.proofs.simplify.Goals as goal
 
 pub returns-then-patterns-lt-WORK_PLACES : goal.returns-then-patterns-lt-WORK_PLACES
-returns-then-patterns-lt-WORK_PLACES c = sym (simplify-worked _ _ _ _ ∙ without-room _ _ _ _ (λ r. omega (arith, r.patterns_room, c.if-patterns-lt-WORK_PLACES.true)))
-
-pub returns-then-coefficients-lt-WORK_PLACES : goal.returns-then-coefficients-lt-WORK_PLACES
-returns-then-coefficients-lt-WORK_PLACES c = sym (simplify-worked _ _ _ _ ∙ without-room _ _ _ _ (λ r. omega (arith, r.coefficients_room, c.if-coefficients-lt-WORK_PLACES.true)))
-
-pub returns-then-res-lt-MOST_BYTES : goal.returns-then-res-lt-MOST_BYTES
-returns-then-res-lt-MOST_BYTES c = sym (simplify-worked _ _ _ _ ∙ without-room _ _ _ _ (λ r. omega (arith, r.result_room, c.if-res-lt-MOST_BYTES.true)))
+returns-then-patterns-lt-WORK_PLACES c =
+    let short = c.then-patterns-lt-WORK_PLACES.either in
+    rw c.at.ensures (sym (simplify-worked _ _ _ _ ∙ without-room _ _ _ _ (λ r. omega (arith, r.patterns_room, r.coefficients_room, r.result_room, short))))
 
 pub returns : goal.returns
 returns c = all-cleared _ _ _ _ c.form_table-answer.new.patterns c.form_table-answer.new.coefficients _ (record { patterns_room = c.if-patterns-lt-WORK_PLACES.false; coefficients_room = c.if-coefficients-lt-WORK_PLACES.false; result_room = c.if-res-lt-MOST_BYTES.false })
-    c.form_table-answer.ensures.res_after c.form_table-answer.ensures.patterns_unchanged c.form_table-answer.ensures.coefficients_unchanged c.clear_words.ensures c.clear_coefficients.ensures
+    c.form_table-answer.ensures.res_after c.form_table-answer.ensures.patterns_unchanged c.form_table-answer.ensures.coefficients_unchanged c.clear.ensures.patterns_cleared c.clear.ensures.coefficients_cleared
     ∙ sym (simplify-worked _ _ _ _)

@@ -1,20 +1,12 @@
--- `formal_degree` meets its contract, kind by kind.
-use mathlib.Core.Path.{◌∙◌}
-use Rattle.nodes.specs.Formal.{formal_degree}
-use Rattle.nodes.proofs.Formally.{degree-at}
+-- `formal_degree` meets its contract: a degree of at most 60 times an exponent of at most 60 fits.
+use native.Mathlib.Omega.{arith}
+use native.Mathlib.Nat.{mul-le-mul}
+use lib.ListN.{length}
+use Rattle.nodes.proofs.Formally.{power-child, low_degree}
 use Rattle.nodes.proofs.formal_degree.Goals as goal
 
-pub returns-in-Integer : goal.returns-in-Integer
-returns-in-Integer c = unfold formal_degree in degree-at _ c.in-Integer.is
-
-pub returns-in-Variable : goal.returns-in-Variable
-returns-in-Variable c = unfold formal_degree in degree-at _ c.in-Variable.is
-
-pub returns-in-Sum : goal.returns-in-Sum
-returns-in-Sum c = unfold formal_degree in (c.larger.ensures ∙ degree-at _ c.in-Sum.is)
-
-pub returns-in-Product : goal.returns-in-Product
-returns-in-Product c = unfold formal_degree in degree-at _ c.in-Product.is
-
-pub returns-in-Power : goal.returns-in-Power
-returns-in-Power c = unfold formal_degree in degree-at _ c.in-Power.is
+pub overflow_mul-result : goal.overflow_mul-result
+overflow_mul-result c =
+    let child = power-child (length c.args.before.now) c.requires.node c.in-Power.is in
+    let low = low_degree c.args.before.now c.requires.low c.in-Power.a child.0 in
+    record { fits = omega (arith, low, mul-le-mul low child.1) }

@@ -9,7 +9,7 @@ use Rattle.numbers.proofs.read_number.Goals.{Else-byte-lt128}
 -- what is left of a byte without its high bit
 low_bits : (c : Else-byte-lt128)
     → get_or c.args.bytes.now c.loop-place.place 0 - 128 < 128
-low_bits c = omega (arith, c.shared_slice_known-1.given c.loop-place.place)
+low_bits c = omega arith
 
 pub loop-place-init : goal.loop-place-init
 loop-place-init c = start _ _

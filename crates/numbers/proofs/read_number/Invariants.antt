@@ -4,6 +4,3 @@ use Rattle.numbers.proofs.read_number.Given as goal
 
 abbrev pub invariant-loop-place : goal.invariant-loop-place
 invariant-loop-place l = Reads l.bytes l.at l.place l.more l.low l.unit
-
-abbrev pub decreases-loop-place : goal.decreases-loop-place
-decreases-loop-place l = l.more

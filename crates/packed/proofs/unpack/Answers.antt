@@ -1,43 +1,34 @@
 -- `unpack` meets its contract: the tests come in 01's order, and few terms go through small arrays.
-use mathlib.Core.Path.{◌≡◌, ◌∙◌, ap}
-use native.Mathlib.Omega.{arith}
-use Rattle.answers.specs.Answers.{Told, outcome}
+use mathlib.Core.Path.{◌≡◌, sym, ◌∙◌, ap}
+use Rattle.std.proofs.lemmas.Result.{err_from_is_err_and}
+use Rattle.answers.proofs.Refusing.{was-ok, was-err}
 use Rattle.numbers.specs.Item.{Item.got}
-use Rattle.numbers.proofs.Items.{number-stopped, number-answered}
+use Rattle.numbers.specs.Inside.Read.{item_of}
+use Rattle.numbers.proofs.Items.{number-fault}
 use Rattle.packed.specs.Inside.Held.{read_count}
-use Rattle.packed.proofs.TakeSum.{count-few}
 use Rattle.packed.proofs.Unpacking.{few_words, few_coefficients, unpack-stops, unpack-rest}
 use Rattle.packed.proofs.unpack.Goals as goal
-use Rattle.packed.proofs.unpack.Goals.{In-Value}
+use Rattle.packed.proofs.unpack.Goals.{In_ok-number}
 
 -- the count that was read
-counted : (d : In-Value) → read_count d.args.bytes.now 0 ≡ got d.in-Value.number d.in-Value.next
-counted d = number-answered d.read_count-first.result d.in-Value.is d.read_count-first.ensures
+counted : (d : In_ok-number) → read_count d.args.bytes.now 0 ≡ got d.in_ok-number.number d.in_ok-number.next
+counted d = sym d.read_count.ensures.value ∙ ap item_of (was-ok _ d.read_count.result d.map_err.result d.map_err.ensures.cases d.in_ok-number.was)
 
 pub returns-then-patterns-lt-MOST_TERMS : goal.returns-then-patterns-lt-MOST_TERMS
-returns-then-patterns-lt-MOST_TERMS c = few_words _ _ _ c.if-patterns-lt-MOST_TERMS.true
+returns-then-patterns-lt-MOST_TERMS c = rw c.at.ensures (few_words _ _ _ c.if-patterns-lt-MOST_TERMS.true)
 
 pub returns-then-coefficients-lt-MOST_TERMS : goal.returns-then-coefficients-lt-MOST_TERMS
-returns-then-coefficients-lt-MOST_TERMS c = few_coefficients _ _ _ c.if-patterns-lt-MOST_TERMS.false c.if-coefficients-lt-MOST_TERMS.true
+returns-then-coefficients-lt-MOST_TERMS c = rw c.at-then-coefficients-lt-MOST_TERMS.ensures (few_coefficients _ _ _ c.if-patterns-lt-MOST_TERMS.false c.if-coefficients-lt-MOST_TERMS.true)
 
-pub returns-in_default : goal.returns-in_default
-returns-in_default c = ap (λ (t : Told). outcome t (c.args.patterns.now, c.args.coefficients.now)) c.refused.ensures
-    ∙ unpack-stops _ _ _ c.if-patterns-lt-MOST_TERMS.false c.if-coefficients-lt-MOST_TERMS.false (number-stopped c.read_count-first.result c.in_default.not-Value _ c.read_count-first.ensures)
+pub returns-in_err-number : goal.returns-in_err-number
+returns-in_err-number c =
+    let p = err_from_is_err_and c.from_residual.result c.from_residual.ensures.1 in
+    let was = was-err _ c.read_count.result c.map_err.result c.map_err.ensures.cases c.in_err-number.was in
+    let stop = number-fault was.0 _ (sym (ap item_of was.1) ∙ c.read_count.ensures.value) in
+    rw (p.1, p.2) (unpack-stops _ _ _ c.if-patterns-lt-MOST_TERMS.false c.if-coefficients-lt-MOST_TERMS.false stop was.2)
 
 pub returns-then-n-le-FEW_TERMS : goal.returns-then-n-le-FEW_TERMS
-returns-then-n-le-FEW_TERMS c = c.unpack_terms.ensures ∙ unpack-rest _ _ _ c.if-patterns-lt-MOST_TERMS.false c.if-coefficients-lt-MOST_TERMS.false (counted (goal.at.returns-then-n-le-FEW_TERMS c).In-Value)
+returns-then-n-le-FEW_TERMS c = c.unpack_by.ensures ∙ unpack-rest _ _ _ c.if-patterns-lt-MOST_TERMS.false c.if-coefficients-lt-MOST_TERMS.false (counted (goal.at.returns-then-n-le-FEW_TERMS c).In_ok-number)
 
-pub unpack_terms-requires-2-clause-count_in_bounds : goal.unpack_terms-requires-2-clause-count_in_bounds
-unpack_terms-requires-2-clause-count_in_bounds c = let few = count-few _ _ (counted (goal.at.unpack_terms-requires-2-clause-count_in_bounds c).In-Value) in omega arith
-
-pub unpack_terms-requires-2-clause-count_in_bounds_2 : goal.unpack_terms-requires-2-clause-count_in_bounds_2
-unpack_terms-requires-2-clause-count_in_bounds_2 c = let few = count-few _ _ (counted (goal.at.unpack_terms-requires-2-clause-count_in_bounds_2 c).In-Value) in omega arith
-
-pub unpack_terms-requires-2-clause-count_in_bounds_3 : goal.unpack_terms-requires-2-clause-count_in_bounds_3
-unpack_terms-requires-2-clause-count_in_bounds_3 c = let few = count-few _ _ (counted (goal.at.unpack_terms-requires-2-clause-count_in_bounds_3 c).In-Value) in omega (arith, c.if-patterns-lt-MOST_TERMS.false)
-
-pub unpack_terms-requires-2-clause-count_in_bounds_4 : goal.unpack_terms-requires-2-clause-count_in_bounds_4
-unpack_terms-requires-2-clause-count_in_bounds_4 c = let few = count-few _ _ (counted (goal.at.unpack_terms-requires-2-clause-count_in_bounds_4 c).In-Value) in omega (arith, c.if-coefficients-lt-MOST_TERMS.false)
-
-pub returns : goal.returns
-returns c = c.unpack_terms-2.ensures ∙ unpack-rest _ _ _ c.if-patterns-lt-MOST_TERMS.false c.if-coefficients-lt-MOST_TERMS.false (counted (goal.at.returns c).In-Value)
+pub returns-else-n-le-FEW_TERMS : goal.returns-else-n-le-FEW_TERMS
+returns-else-n-le-FEW_TERMS c = c.unpack_by-else-n-le-FEW_TERMS.ensures ∙ unpack-rest _ _ _ c.if-patterns-lt-MOST_TERMS.false c.if-coefficients-lt-MOST_TERMS.false (counted (goal.at.returns-else-n-le-FEW_TERMS c).In_ok-number)

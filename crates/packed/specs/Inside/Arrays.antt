@@ -1,5 +1,5 @@
 -- What the readers of terms leave in two arrays that are their callers' own.
-use Rattle.std.specs.Prelude.{◌≡◌, List, [], map, ℕ, ◌<◌, ℤ, pos, length, take}
+use Rattle.std.specs.Prelude.{◌≡◌, List, [], map, ℕ, ℤ, pos, length, take, Option, Some}
 use Rattle.algebra.specs.Limits.{variables}
 use Rattle.algebra.specs.Pattern.{Pattern}
 use Rattle.algebra.specs.Sum.{Term, Sum}
@@ -37,15 +37,15 @@ unfoldable pub whole_into : ℕ → Judged Sum → List ℕ → List ℤ → Out
 whole_into count (good s) ws cs = outcome (done (length s)) (written (words_of s) ws, written (coefficients_of s) cs)
 whole_into count (fails refusal place) ws cs = outcome (refused refusal place) (cleared 0 count ws, cleared (pos 0) count cs)
 
--- terms were copied, not judged, into the first `count` places of two arrays that held ws₀ and cs₀, and `end` is the place after them; or it is 0. If they were, and all are good, they are the
--- terms that are read there
-pub record Copies (count : ℕ) (s : List ℕ) (at end : ℕ) (ws₀ : List ℕ) (cs₀ : List ℤ) (ws : List ℕ) (cs : List ℤ) : Type 0 where
+-- terms were copied, not judged, into the first `count` places of two arrays that held ws₀ and cs₀, and `copied` has the place after them, or is `None`. If they were, and all are good, they are
+-- the terms that are read there
+pub record Copies (count : ℕ) (s : List ℕ) (at : ℕ) (copied : Option ℕ) (ws₀ : List ℕ) (cs₀ : List ℤ) (ws : List ℕ) (cs : List ℤ) : Type 0 where
   pub words_kept : ws ≡ written (take count ws) ws₀
   pub coefficients_kept : cs ≡ written (take count cs) cs₀
-  pub are : 0 < end → good_terms [] (take count ws) (take count cs) ≡ count → read_terms variables count [] s at ≡ got (first_terms count ws cs) end
+  pub are : (end : ℕ) → copied ≡ Some end → good_terms [] (take count ws) (take count cs) ≡ count → read_terms variables count [] s at ≡ got (first_terms count ws cs) end
 
--- good terms were read into the first `count` places of two arrays that held ws₀ and cs₀, and `end` is the place after them; or it is 0, and only these places are other than before
-pub record Takes (count : ℕ) (s : List ℕ) (at end : ℕ) (ws₀ : List ℕ) (cs₀ : List ℤ) (ws : List ℕ) (cs : List ℤ) : Type 0 where
+-- good terms were read into the first `count` places of two arrays that held ws₀ and cs₀, and `taken` has the place after them; or it is `None`, and only these places are other than before
+pub record Takes (count : ℕ) (s : List ℕ) (at : ℕ) (taken : Option ℕ) (ws₀ : List ℕ) (cs₀ : List ℤ) (ws : List ℕ) (cs : List ℤ) : Type 0 where
   pub words_kept : ws ≡ written (take count ws) ws₀
   pub coefficients_kept : cs ≡ written (take count cs) cs₀
-  pub are : 0 < end → (got count end, ws, cs) ≡ taken_into count (read_terms variables count [] s at) ws₀ cs₀
+  pub are : (end : ℕ) → taken ≡ Some end → (got count end, ws, cs) ≡ taken_into count (read_terms variables count [] s at) ws₀ cs₀

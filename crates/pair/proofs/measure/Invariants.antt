@@ -1,12 +1,8 @@
 -- `measure` meets its contract: the loop keeps `Measuring`.
-use Prim.Native.Nat.{◌-◌}
 use lib.ListN.{length}
 use Rattle.algebra.specs.Word.{terms}
 use Rattle.pair.proofs.Measuring.{Measuring}
 use Rattle.pair.proofs.measure.Given as goal
 
-abbrev pub invariant-loop-k : goal.invariant-loop-k
-invariant-loop-k l = Measuring l.v (terms l.sp l.sc) l.put_degree l.put_weight l.fp l.fc l.degree l.weight l.power l.k
-
-abbrev pub decreases-loop-k : goal.decreases-loop-k
-decreases-loop-k l = length l.fp - l.k
+abbrev pub invariant-loop-word : goal.invariant-loop-word
+invariant-loop-word l = Measuring l.v (terms l.put.patterns.now l.put.coefficients.now) l.size.degree l.size.weight l.into.patterns.now l.into.coefficients.now l.degree l.weight l.power (length l.yielded)

@@ -11,11 +11,11 @@ use Rattle.sums.proofs.multiply.Goals as goal
 use Rattle.sums.proofs.multiply.Goals.{After-c-1}
 
 -- the coefficient that was read, as the machine holds it
-read : (d : After-c-1) → let value = get_or d.args.sc.now 0 (pos 0) in to_z w64 (of_z w64 value) ≡ value
+read : (d : After-c-1) → let value = get_or d.args.s.coefficients.now 0 (pos 0) in to_z w64 (of_z w64 value) ≡ value
 read d = to_z-of_z w64 _ (record { sfits = d.c-1.given })
 
 pub multiply_by_term-requires-clause-has_term : goal.multiply_by_term-requires-clause-has_term
-multiply_by_term-requires-clause-has_term c = rw (read (goal.at.multiply_by_term-requires-clause-has_term c).After-c-1) (has-term c.requires.factors c.if-sp-eq1.true)
+multiply_by_term-requires-clause-has_term c = rw (read (goal.at.multiply_by_term-requires-clause-has_term c).After-c-1) (has-term c.requires.factors c.if-s-eq1.true)
 
-pub returns-then-sp-eq1 : goal.returns-then-sp-eq1
-returns-then-sp-eq1 c = (rw (read (goal.at.returns-then-sp-eq1 c).After-c-1) at c.multiply_by_term.ensures) ∙ ap (λ x. formed_into x c.args.patterns.now c.args.coefficients.now) (by_one c.requires.factors c.if-sp-eq1.true)
+pub returns-then-s-eq1 : goal.returns-then-s-eq1
+returns-then-s-eq1 c = (rw (read (goal.at.returns-then-s-eq1 c).After-c-1) at c.multiply_by_term.ensures) ∙ ap (λ x. formed_into x c.args.patterns.now c.args.coefficients.now) (by_one c.requires.factors c.if-s-eq1.true)

@@ -11,7 +11,7 @@ use Rattle.sums.proofs.multiply_by_term.Goals.{After-d-1}
 
 -- the coefficient that was read, as the machine holds it
 read : (d : After-d-1)
-    → let value = get_or d.args.tc.now d.loop-k.k (pos 0) in
+    → let value = get_or d.args.t.coefficients.now d.loop-k.k (pos 0) in
     to_z w64 (of_z w64 value) ≡ value
 read d = to_z-of_z w64 _ (record { sfits = d.d-1.given })
 
@@ -21,9 +21,6 @@ loop-k-init c = start (rw (to_z-of_z w64 c.args.c c.ranges.c) c.requires.has_ter
 pub overflow_mul-value : goal.overflow_mul-value
 overflow_mul-value c = rw (read c) (value-fits c.loop-k.invariant.has c.loop-k.k c.loop-k-test.true)
 
-pub loop-k-preserved-then-value-eq0 : goal.loop-k-preserved-then-value-eq0
-loop-k-preserved-then-value-eq0 c = skips c.loop-k.invariant c.loop-k-test.true (rw (read (goal.at.loop-k-preserved-then-value-eq0 c).After-d-1) at (zero_bits _ (overflow_mul-value (goal.at.loop-k-preserved-then-value-eq0 c).After-d-1) c.if-value-eq0.true))
-
 pub product-pattern-requires-clause-valid_2 : goal.product-pattern-requires-clause-valid_2
 product-pattern-requires-clause-valid_2 c = (can-multiply c.loop-k.invariant.has c.loop-k.k c.loop-k-test.true).1.0
 
@@ -32,9 +29,12 @@ product-pattern-requires-clause-other_bound c = (can-multiply c.loop-k.invariant
 
 pub loop-k-preserved : goal.loop-k-preserved
 loop-k-preserved c = let factor = to_z w64 (of_z w64 c.args.c) in
-    let value = get_or c.args.tc.now c.loop-k.k (pos 0) in
+    let value = get_or c.args.t.coefficients.now c.loop-k.k (pos 0) in
     takes c.loop-k.invariant c.loop-k-test.true (rw (read (goal.at.loop-k-preserved c).After-d-1) at (nonzero-bits (factor *ℤ to_z w64 (of_z w64 value)) c.if-value-eq0.false)) c.product-pattern.ensures
     (to_z-of_z w64 _ (overflow_mul-value (goal.at.loop-k-preserved c).After-d-1) ∙ ap (λ z. factor *ℤ z) (read (goal.at.loop-k-preserved c).After-d-1))
+
+pub loop-k-preserved-then-value-eq0 : goal.loop-k-preserved-then-value-eq0
+loop-k-preserved-then-value-eq0 c = skips c.loop-k.invariant c.loop-k-test.true (rw (read (goal.at.loop-k-preserved-then-value-eq0 c).After-d-1) at (zero_bits _ (overflow_mul-value (goal.at.loop-k-preserved-then-value-eq0 c).After-d-1) c.if-value-eq0.true))
 
 pub returns : goal.returns
 returns c = rw (to_z-of_z w64 c.args.c c.ranges.c) at (ended c.loop-k.invariant c.loop-k-test.false)

@@ -8,11 +8,11 @@ use Rattle.sums.proofs.sum.Goals as goal
 pub returns-then-not-fits : goal.returns-then-not-fits
 returns-then-not-fits c = stays _ _ (over-told _ _ (sym c.fits.ensures ∙ not-true _ c.if-not-fits.true-raw))
 
-pub merge-count-requires-clause-tc_in_bounds : goal.merge-count-requires-clause-tc_in_bounds
-merge-count-requires-clause-tc_in_bounds c = (spread-room c.requires.addends c.requires.room_of (sym c.fits.ensures ∙ not-false _ c.if-not-fits.false-raw)).0
+pub merge-requires-clause-room_for_patterns : goal.merge-requires-clause-room_for_patterns
+merge-requires-clause-room_for_patterns c = (spread-room c.requires.addends c.requires.room_of (sym c.fits.ensures ∙ not-false _ c.if-not-fits.false-raw)).0
 
-pub merge-count-requires-clause-tc_in_bounds_2 : goal.merge-count-requires-clause-tc_in_bounds_2
-merge-count-requires-clause-tc_in_bounds_2 c = (spread-room c.requires.addends c.requires.room_of (sym c.fits.ensures ∙ not-false _ c.if-not-fits.false-raw)).1
+pub merge-requires-clause-room_for_coefficients : goal.merge-requires-clause-room_for_coefficients
+merge-requires-clause-room_for_coefficients c = (spread-room c.requires.addends c.requires.room_of (sym c.fits.ensures ∙ not-false _ c.if-not-fits.false-raw)).1
 
 pub returns : goal.returns
-returns c = c.merge-count.ensures ∙ ap (λ x. formed_into x c.args.patterns.now c.args.coefficients.now) (formed-told _ _ (sym c.fits.ensures ∙ not-false _ c.if-not-fits.false-raw))
+returns c = c.merge.ensures ∙ ap (λ x. formed_into x c.args.patterns.now c.args.coefficients.now) (formed-told _ _ (sym c.fits.ensures ∙ not-false _ c.if-not-fits.false-raw))

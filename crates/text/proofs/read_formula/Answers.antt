@@ -1,44 +1,40 @@
 -- `read_formula` meets its contract: check by check, and the table that was laid out is copied.
-use native.Mathlib.Omega.{arith}
-use lib.IntN.{pos}
-use lib.ListN.{replicate, length-replicate}
-use Rattle.text.specs.Limits.{deepest, table_places}
-use Rattle.text.specs.Reader.{read_sum, in_brackets}
+use Rattle.std.proofs.Common.{◌≡◌, arith, rules, ◌∙◌, refl}
+use Rattle.std.proofs.lemmas.Result.{err_from_is_err_and}
+use Rattle.answers.specs.declared.Refusal.TheVariants.{Text}
+use Rattle.answers.proofs.Refusing.{was-ok, was-err}
 use Rattle.text.proofs.Branches.{no-sum, more_left, all_read}
-use Rattle.text.proofs.Told.{Told, told, faults}
-use Rattle.text.proofs.Answering.{no_room, too_long, no_formula, too_many, all_done, LaidOut, stands}
+use Rattle.text.proofs.Told.{told, faults}
+use Rattle.text.proofs.Answering.{no_room, too_long, no_formula, too_many, all_done, stands}
 use Rattle.text.proofs.read_formula.Goals as goal
-use Rattle.text.proofs.read_formula.Goals.{Else-nodes-gt-MOST_NODES, In-At}
-
--- a sum was read
-sum : (c : In-At) → Told (read_sum (in_brackets deepest c.args.text.now) c.args.text.now 0) c.args.text.now 0 0 (replicate table_places (pos 0)) c.in-At.next c.in-At.nodes
-    c.read_sum-read.new.table
-sum c = told _ _ _ _ _ _ c.read_sum-read.ensures c.in-At.is
-
--- all of it is a formula of few nodes
-laid : (c : Else-nodes-gt-MOST_NODES) → LaidOut ((told _ _ _ _ _ _ c.read_sum-read.ensures c.in-At.is)).tree c.in-At.nodes c.read_sum-read.new.table
-laid c = stands _ _ _ (length-replicate table_places (pos 0)) ((told _ _ _ _ _ _ c.read_sum-read.ensures c.in-At.is)).part c.if-nodes-gt-MOST_NODES.false
 
 pub returns-then-table-lt-TABLE_PLACES : goal.returns-then-table-lt-TABLE_PLACES
-returns-then-table-lt-TABLE_PLACES c = no_room _ _ c.if-table-lt-TABLE_PLACES.true
+returns-then-table-lt-TABLE_PLACES c = rw c.at.ensures (no_room _ _ c.if-table-lt-TABLE_PLACES.true)
 
 pub returns-then-text-gt-LONGEST_TEXT : goal.returns-then-text-gt-LONGEST_TEXT
-returns-then-text-gt-LONGEST_TEXT c = too_long _ _ c.if-table-lt-TABLE_PLACES.false c.if-text-gt-LONGEST_TEXT.true
+returns-then-text-gt-LONGEST_TEXT c =
+    rw c.at-then-text-gt-LONGEST_TEXT.ensures (too_long _ _ c.if-table-lt-TABLE_PLACES.false c.if-text-gt-LONGEST_TEXT.true)
+
+pub returns-in_err-next : goal.returns-in_err-next
+returns-in_err-next c = let p = err_from_is_err_and c.from_residual.result c.from_residual.ensures.1 in
+    let was = was-err _ c.read_sum-read.result c.map_err.result c.map_err.ensures.cases c.in_err-next.was in
+    let z : c.in_err-next.field-0.0 ≡ record { refusal = Text; place = was.0 } = search (rules, was.2) in
+    rw (p.1, p.2, z) (no_formula _ _ c.if-table-lt-TABLE_PLACES.false c.if-text-gt-LONGEST_TEXT.false (no-sum _ (faults c.read_sum-read.ensures was.1)))
 
 pub returns-then-next-text : goal.returns-then-next-text
-returns-then-next-text c = no_formula _ _ c.if-table-lt-TABLE_PLACES.false c.if-text-gt-LONGEST_TEXT.false (more_left _ (sum (goal.at.returns-then-next-text c).In-At).is c.if-next-text.true)
+returns-then-next-text c = let s = told c.read_sum-read.ensures (was-ok _ c.read_sum-read.result c.map_err.result c.map_err.ensures.cases c.in_ok-next.was) in
+    rw c.at-then-next-text.ensures
+    (no_formula _ _ c.if-table-lt-TABLE_PLACES.false c.if-text-gt-LONGEST_TEXT.false (more_left _ s.is c.if-next-text.true))
 
-pub returns-then-nodes-gt-MOST_NODES : goal.returns-then-nodes-gt-MOST_NODES
-returns-then-nodes-gt-MOST_NODES c = let s = sum (goal.at.returns-then-nodes-gt-MOST_NODES c).In-At in
-    too_many _ _ c.if-table-lt-TABLE_PLACES.false c.if-text-gt-LONGEST_TEXT.false (all_read _ s.is c.if-next-text.false) (omega arith)
+pub returns-then-layout-gt-MOST_NODES : goal.returns-then-layout-gt-MOST_NODES
+returns-then-layout-gt-MOST_NODES c = let s = told c.read_sum-read.ensures (was-ok _ c.read_sum-read.result c.map_err.result c.map_err.ensures.cases c.in_ok-next.was) in
+    rw c.at-then-layout-gt-MOST_NODES.ensures
+    (too_many _ _ c.if-table-lt-TABLE_PLACES.false c.if-text-gt-LONGEST_TEXT.false (all_read _ s.is c.if-next-text.false)
+    (omega (arith, s.part.count_is, c.new-layout.ensures.none)))
 
-pub returns-in-Fault : goal.returns-in-Fault
-returns-in-Fault c = let fault = faults _ _ _ _ _ _ c.read_sum-read.ensures c.in-Fault.is in
-    no_formula _ _ c.if-table-lt-TABLE_PLACES.false c.if-text-gt-LONGEST_TEXT.false (no-sum _ fault)
-
-pub returns-else-nodes-gt-MOST_NODES : goal.returns-else-nodes-gt-MOST_NODES
-unfolding sum
-returns-else-nodes-gt-MOST_NODES c = let s = laid (goal.at.returns-else-nodes-gt-MOST_NODES c).Else-nodes-gt-MOST_NODES in
-    let read = all_read _ (sum (goal.at.returns-else-nodes-gt-MOST_NODES c).In-At).is c.if-next-text.false in
-    all_done _ _ c.if-table-lt-TABLE_PLACES.false c.if-text-gt-LONGEST_TEXT.false read s.many c.if-nodes-gt-MOST_NODES.false
-    (rw s.front at c.copy_coefficients.ensures)
+pub returns : goal.returns
+returns c = let s = told c.read_sum-read.ensures (was-ok _ c.read_sum-read.result c.map_err.result c.map_err.ensures.cases c.in_ok-next.was) in
+    let l = stands _ _ _ c.new-layout.ensures.rows c.new-layout.ensures.none s.part c.if-layout-gt-MOST_NODES.false in
+    let is = c.as_flattened-written.ensures.value ∙ l.front in
+    all_done _ _ c.if-table-lt-TABLE_PLACES.false c.if-text-gt-LONGEST_TEXT.false (all_read _ s.is c.if-next-text.false) l.many
+    c.if-layout-gt-MOST_NODES.false (rw (c.copy_from_slice.ensures.after, is) refl)

@@ -1,9 +1,7 @@
--- The code's enum of letters, as the definition says it.
-use Rattle.text.specs.declared.bytes.Letter as declared
-use Rattle.text.specs.declared.bytes.Letter.TheVariants as code
+-- The letter that the code finds, as the definition says it.
+use Rattle.std.specs.Prelude.{ℕ, Option, Some, None}
 use Rattle.text.specs.Letters.{Letter, Letter.names, Letter.nothing}
 
--- each case of the code's enum
-abbrev pub letter_is : declared.Letter → Letter
-letter_is (code.Names v) = names v
-letter_is code.Nothing = nothing
+abbrev pub letter_is : Option ℕ → Letter
+letter_is (Some v) = names v
+letter_is None = nothing

@@ -1,42 +1,41 @@
-use Prim.Native.Nat.{◌≤◌}
+use mathlib.Core.Path.{◌≡◌}
+use mathlib.Core.List.{◌++◌}
 use native.Mathlib.Omega.{arith}
-use Rattle.algebra.specs.Limits.{most_terms}
-use Rattle.change.proofs.ApplyPairs.{given, stops, made-few, again, ended}
+use lib.ListN.{take, drop}
+use Rattle.std.proofs.Common.{rules}
+use Rattle.std.proofs.lemmas.Result.{err_from_is_err_and}
+use Rattle.answers.specs.Areas.{written}
+use Rattle.change.proofs.ApplyPairs.{last-place, given, stops, made-few, again, ended}
 use Rattle.change.proofs.applying.apply_pairs.Goals as goal
-use Rattle.change.proofs.applying.apply_pairs.Goals.{In-Done}
 
--- the pair's result fits into the areas
-fits : (d : In-Done) → d.in-Done.count ≤ most_terms
-fits d =
-    made-few d.loop-j.invariant d.loop-j-test.true d.apply_pair-applied.result d.apply_pair-applied.ensures d.in-Done.is
+pub overflow_add-end : goal.overflow_add-end
+overflow_add-end c = record { fits = omega (arith, last-place c.loop-j.invariant c.loop-j-test.true) }
 
-pub apply_pair-applied-requires-clause-can_put : goal.apply_pair-applied-requires-clause-can_put
-apply_pair-applied-requires-clause-can_put c = given c.loop-j.invariant c.loop-j-test.true
+pub slice_bounds-put-end : goal.slice_bounds-put-end
+slice_bounds-put-end c = omega (arith, last-place c.loop-j.invariant c.loop-j-test.true, c.loop-j.invariant.can.words_room)
 
-pub returns-in_default-clause-result_value : goal.returns-in_default-clause-result_value
-returns-in_default-clause-result_value c = (stops c.loop-j.invariant c.loop-j-test.true c.apply_pair-applied.result c.apply_pair-applied.ensures c.in_default.not-Done).0
+pub slice_bounds-put-end-in-loop-j : goal.slice_bounds-put-end-in-loop-j
+slice_bounds-put-end-in-loop-j c = omega (arith, last-place c.loop-j.invariant c.loop-j-test.true, c.loop-j.invariant.can.coefficients_room)
 
-pub returns-in_default-clause-holds_good : goal.returns-in_default-clause-holds_good
-returns-in_default-clause-holds_good c = (stops c.loop-j.invariant c.loop-j-test.true c.apply_pair-applied.result c.apply_pair-applied.ensures c.in_default.not-Done).1
+pub apply_pair-requires-clause-can_put : goal.apply_pair-requires-clause-can_put
+apply_pair-requires-clause-can_put c = rw (c.first-into.ensures.patterns, c.first-into.ensures.coefficients) (given c.loop-j.invariant c.loop-j-test.true)
 
-pub copy_words-requires-clause-count_in_bounds : goal.copy_words-requires-clause-count_in_bounds
-copy_words-requires-clause-count_in_bounds c = let few = fits (goal.at.copy_words-requires-clause-count_in_bounds c).In-Done in omega (arith, few, c.loop-j.invariant.room.words)
+pub returns-in_err-terms : goal.returns-in_err-terms
+returns-in_err-terms c =
+    let p = err_from_is_err_and c.from_residual.result c.from_residual.ensures.1 in
+    rw (p.1, p.2) (stops c.loop-j.invariant c.loop-j-test.true (rw (c.first-into.ensures.patterns, c.first-into.ensures.coefficients) at c.in_err-terms.ensures))
 
-pub copy_words-requires-clause-count_in_bounds_2 : goal.copy_words-requires-clause-count_in_bounds_2
-copy_words-requires-clause-count_in_bounds_2 c = let few = fits (goal.at.copy_words-requires-clause-count_in_bounds_2 c).In-Done in omega (arith, few, c.loop-j.invariant.next_words_room, c.apply_pair-applied.auto.patterns)
-
-pub copy_coefficients-requires-clause-count_in_bounds : goal.copy_coefficients-requires-clause-count_in_bounds
-copy_coefficients-requires-clause-count_in_bounds c = let few = fits (goal.at.copy_coefficients-requires-clause-count_in_bounds c).In-Done in omega (arith, few, c.loop-j.invariant.room.coefficients)
-
-pub copy_coefficients-requires-clause-count_in_bounds_2 : goal.copy_coefficients-requires-clause-count_in_bounds_2
-copy_coefficients-requires-clause-count_in_bounds_2 c = let few = fits (goal.at.copy_coefficients-requires-clause-count_in_bounds_2 c).In-Done in omega (arith, few, c.loop-j.invariant.next_coefficients_room, c.apply_pair-applied.auto.coefficients)
+pub prove-unreachable-requires : goal.prove-unreachable-requires
+prove-unreachable-requires c =
+    let few = made-few c.loop-j.invariant c.loop-j-test.true (rw (c.first-into.ensures.patterns, c.first-into.ensures.coefficients) at c.in_ok-terms.ensures) in
+    omega (arith, few, c.if-prove.true)
 
 pub loop-j-preserved : goal.loop-j-preserved
-loop-j-preserved c = again c.loop-j.invariant c.loop-j-test.true c.apply_pair-applied.result c.apply_pair-applied.ensures c.in-Done.is c.copy_words.ensures c.copy_coefficients.ensures
-    c.copy_words.auto.area c.copy_coefficients.auto.area c.apply_pair-applied.auto.patterns c.apply_pair-applied.auto.coefficients
+loop-j-preserved c =
+    let words : c.copy_from_slice.new.self ++ drop c.in_ok-terms.terms c.loop-j.fp ≡ written (take c.in_ok-terms.terms c.apply_pair.new.patterns) c.loop-j.fp = search rules in
+    let coefficients : c.copy_from_slice-in-loop-j.new.self ++ drop c.in_ok-terms.terms c.loop-j.fc ≡ written (take c.in_ok-terms.terms c.apply_pair.new.coefficients) c.loop-j.fc = search rules in
+    again c.loop-j.invariant c.loop-j-test.true (rw (c.first-into.ensures.patterns, c.first-into.ensures.coefficients) at c.in_ok-terms.ensures)
+    words coefficients (search rules) (search rules) c.apply_pair.auto.patterns c.apply_pair.auto.coefficients
 
-pub returns-clause-result_value : goal.returns-clause-result_value
-returns-clause-result_value c = (ended c.loop-j.invariant c.loop-j-test.false).0
-
-pub returns-clause-holds_good : goal.returns-clause-holds_good
-returns-clause-holds_good c = (ended c.loop-j.invariant c.loop-j-test.false).1
+pub returns : goal.returns
+returns c = ended c.loop-j.invariant c.loop-j-test.false

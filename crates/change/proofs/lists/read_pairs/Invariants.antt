@@ -1,10 +1,6 @@
 -- `read_pairs` meets its contract: the loop keeps `Taking`, and both work areas lend the part of the pair that is read.
-use Prim.Native.Nat.{◌-◌}
 use Rattle.change.proofs.TakePairs.{Taking}
 use Rattle.change.proofs.lists.read_pairs.Given as goal
 
 abbrev pub invariant-loop-j : goal.invariant-loop-j
-invariant-loop-j l = Taking l.list l.at l.count l.initial.letters l.initial.counts l.initial.patterns l.initial.coefficients l.place l.j l.letters l.counts l.patterns l.coefficients
-
-abbrev pub decreases-loop-j : goal.decreases-loop-j
-decreases-loop-j l = l.count - l.j
+invariant-loop-j l = Taking l.list l.at l.count l.initial.entries l.initial.patterns l.initial.coefficients l.place l.j l.entries l.patterns l.coefficients

@@ -1,12 +1,16 @@
--- `fill` meets its contract: the loop keeps `Filled`, and each row is inside the tables.
-use Prim.Native.Nat.{◌-◌}
+-- `fill` meets its contract: the rows so far are filled.
+use Prim.Native.Nat.{ℕ, ◌<◌}
+use mathlib.Core.Path.{◌≡◌}
+use mathlib.Core.List.{[]}
+use lib.IntN.{pos}
+use lib.ListN.{length, get_or}
 use Rattle.algebra.specs.Limits.{variables}
+use Rattle.algebra.specs.Pattern.{exponent}
 use Rattle.algebra.specs.Word.{exponents}
-use Rattle.estimates.proofs.Tabling.{Filled}
+use Rattle.estimates.specs.Inside.Powers.{Row}
 use Rattle.estimates.proofs.powers.fill.Given as goal
 
 abbrev pub invariant-loop-v : goal.invariant-loop-v
-invariant-loop-v l = Filled l.readings l.raised (exponents l.used.0) l.initial.upper l.initial.powers l.upper l.powers l.v
-
-abbrev pub decreases-loop-v : goal.decreases-loop-v
-decreases-loop-v l = variables - l.v
+invariant-loop-v g l =
+    (length l.table ≡ variables)
+    × ((u : ℕ) → u < l.v → Row (get_or l.readings.raised.now u 0) (get_or l.readings.readings.now u (pos 0)) (exponent u (exponents l.used.0)) (get_or l.table u []))

@@ -1,22 +1,18 @@
 use mathlib.Core.Path.{◌∙◌}
 use Prim.Native.Nat.{◌+◌}
 use native.Mathlib.Omega.{arith}
+use borrow.Author.Rules.{rules}
 use Rattle.algebra.specs.Margin.{unsigned}
 use Rattle.algebra.proofs.Sums.Margins.{raised-length}
 use Rattle.answers.proofs.Writes.{written_all}
 use Rattle.answers.proofs.Copies.{start, again, ended}
 use Rattle.estimates.proofs.Raising.{Raised, raised}
 use Rattle.estimates.proofs.readings.raise.Goals as goal
-use Rattle.estimates.proofs.readings.raise.Goals.{After-absolute-in-loop-v}
+use Rattle.estimates.proofs.readings.raise.Goals.{After-unsigned_abs-in-loop-v}
 
-one : (c : After-absolute-in-loop-v)
-    → Raised c.args.readings.now c.args.tolerances.now c.loop-v.v (c.absolute.result + c.absolute-in-loop-v.result)
-one c =
-    raised _ _ _ (omega arith) (omega arith) c.requires.tolerances_value
-    (record { sfits = c.reading-1.given })
-    (record { sfits = c.tolerance-1.given })
-    c.absolute.ensures
-    c.absolute-in-loop-v.ensures
+one : (c : After-unsigned_abs-in-loop-v)
+    → Raised c.args.readings.now c.args.tolerances.now c.loop-v.v (c.unsigned_abs.result + c.unsigned_abs-in-loop-v.result)
+one c = raised _ _ _ (omega arith) (omega arith) c.requires.tolerances_value (search rules) (search rules) c.unsigned_abs.ensures.value c.unsigned_abs-in-loop-v.ensures.value
 
 pub loop-v-init : goal.loop-v-init
 loop-v-init c = start _ _ _ (omega arith) (omega (arith, raised-length c.args.readings.now (unsigned c.args.tolerances.now), c.requires.readings_len))

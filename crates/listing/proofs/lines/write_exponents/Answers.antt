@@ -53,8 +53,6 @@ loop-v-preserved c = again _ _ _ c.loop-v.invariant c.loop-v-test.true c.exponen
 pub bounds-area-place-2 : goal.bounds-area-place-2
 bounds-area-place-2 c = byte-room c.loop-v.invariant _ _ (no_more _ _ c.loop-v-test.false)
 
-pub returns-clause-value : goal.returns-clause-value
-returns-clause-value c = (finished (left_as (no_more _ _ c.loop-v-test.false) c.loop-v.invariant) refl refl).0
-
-pub returns-clause-area_after : goal.returns-clause-area_after
-returns-clause-area_after c = (finished (left_as (no_more _ _ c.loop-v-test.false) c.loop-v.invariant) refl refl).1
+pub returns : goal.returns
+returns c =
+    let all = finished (left_as (no_more _ _ c.loop-v-test.false) c.loop-v.invariant) refl refl in record { value = all.0; area_after = all.1 }

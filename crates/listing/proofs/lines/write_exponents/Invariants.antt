@@ -1,8 +1,7 @@
 -- `write_exponents` meets its contract: the bytes left are those of the exponents left, and the newline.
 use mathlib.Core.List.{List}
-use Prim.Native.Nat.{ℕ, ◌-◌}
+use Prim.Native.Nat.{ℕ}
 use lib.ListN.{drop}
-use Rattle.algebra.specs.Limits.{variables}
 use Rattle.algebra.specs.Word.{exponents}
 use Rattle.numbers.proofs.Writing.{Writing}
 use Rattle.listing.specs.Lines.{exponents_line}
@@ -14,6 +13,3 @@ line_from w v = exponents_line (drop v (exponents w))
 
 abbrev pub invariant-loop-v : goal.invariant-loop-v
 invariant-loop-v l = Writing l.initial.area l.at (line_from l.pattern.0 0) l.area l.place (line_from l.pattern.0 l.v)
-
-abbrev pub decreases-loop-v : goal.decreases-loop-v
-decreases-loop-v l = variables - l.v

@@ -42,8 +42,6 @@ write_signed-after-requires c = let p = exponents c.args.pattern.0 in
 pub write_exponents-requires : goal.write_exponents-requires
 write_exponents-requires c = (valued (goal.at.write_exponents-requires c).After-write_signed-after).room
 
-pub returns-clause-value : goal.returns-clause-value
-returns-clause-value c = (finished (valued (goal.at.returns-clause-value c).After-write_signed-after) c.write_exponents.ensures.value c.write_exponents.ensures.area_after).0
-
-pub returns-clause-area_after : goal.returns-clause-area_after
-returns-clause-area_after c = (finished (valued (goal.at.returns-clause-area_after c).After-write_signed-after) c.write_exponents.ensures.value c.write_exponents.ensures.area_after).1
+pub returns : goal.returns
+returns c =
+    let all = finished (valued (goal.at.returns c).After-write_signed-after) c.write_exponents.ensures.value c.write_exponents.ensures.area_after in record { value = all.0; area_after = all.1 }

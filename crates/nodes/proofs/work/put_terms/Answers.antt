@@ -1,10 +1,10 @@
--- `put_terms` meets its contract: both work areas lend the part of node i.
-use native.Mathlib.Omega.{arith}
+-- `put_terms` meets its contract: what is written are the first places of the part of node i.
+use lib.Seq.{length-take-le}
 use Rattle.nodes.proofs.Putting.{put-at}
 use Rattle.nodes.proofs.work.put_terms.Goals as goal
 
-pub returns-clause-put_at : goal.returns-clause-put_at
-returns-clause-put_at c = put-at c.args.i _ c.args.patterns.now (omega arith) c.copy_words.auto.area c.copy_words.ensures
+pub returns-clause-words_put : goal.returns-clause-words_put
+returns-clause-words_put c = put-at c.args.i c.args.count _ c.args.patterns.now c.requires.words_room c.requires.count_le_most_terms (length-take-le c.args.count c.args.sp.now c.requires.count_in_sp) c.copy_from_slice.ensures.after
 
-pub returns-clause-put_at_2 : goal.returns-clause-put_at_2
-returns-clause-put_at_2 c = put-at c.args.i _ c.args.coefficients.now (omega arith) c.copy_coefficients.auto.area c.copy_coefficients.ensures
+pub returns-clause-coefficients_put : goal.returns-clause-coefficients_put
+returns-clause-coefficients_put c = put-at c.args.i c.args.count _ c.args.coefficients.now c.requires.coefficients_room c.requires.count_le_most_terms (length-take-le c.args.count c.args.sc.now c.requires.count_in_sc) c.copy_from_slice-2.ensures.after

@@ -1,22 +1,39 @@
 -- `sum_by` meets its contract: its operands are the sums of two earlier nodes, where they stand, and what they give is put into the part of node i.
-use mathlib.Core.List.{[]}
-use Rattle.nodes.proofs.Putting.{addends, addends-made, put-none, put-few, put-formed}
+use native.Mathlib.Omega.{arith}
+use Rattle.nodes.proofs.Working.{addends_asked, addends_formed}
+use Rattle.nodes.proofs.Putting.{sum_made, put-none, few, in_words, in_coefficients, put-formed}
 use Rattle.nodes.proofs.work.sum_by.Goals as goal
 
-pub sum-formed-requires-clause-addends : goal.sum-formed-requires-clause-addends
-sum-formed-requires-clause-addends c = addends c.requires.ready
+pub sum-requires-clause-addends : goal.sum-requires-clause-addends
+sum-requires-clause-addends g c =
+    let s = c.terms_of-s.ensures in
+    let t = c.terms_of-t.ensures in
+    addends_asked s.patterns s.coefficients t.patterns t.coefficients c.requires.ready
 
-pub returns-in_default : goal.returns-in_default
-returns-in_default c = put-none c.args.i _ _ (addends-made c.requires.ready c.sum-formed.result c.sum-formed.ensures) c.in_default.not-Terms
+pub returns-in_err-count : goal.returns-in_err-count
+returns-in_err-count g c =
+    let s = c.terms_of-s.ensures in
+    let t = c.terms_of-t.ensures in
+    let is = addends_formed s.patterns s.coefficients t.patterns t.coefficients c.requires.ready in
+    rw c.from_residual.ensures (put-none (sum_made c.sum.result _ _ is c.sum.ensures) c.args.i _ _ c.in_err-count.was)
 
-pub put_terms-requires-clause-count_le_most_terms : goal.put_terms-requires-clause-count_le_most_terms
-put_terms-requires-clause-count_le_most_terms c = (put-few 0 [] [] (addends-made c.requires.ready c.sum-formed.result c.sum-formed.ensures) c.in-Terms.is).0
-
-pub put_terms-requires-clause-count_in_bounds : goal.put_terms-requires-clause-count_in_bounds
-put_terms-requires-clause-count_in_bounds c = (put-few 0 [] [] (addends-made c.requires.ready c.sum-formed.result c.sum-formed.ensures) c.in-Terms.is).1.0
-
-pub put_terms-requires-clause-count_in_bounds_2 : goal.put_terms-requires-clause-count_in_bounds_2
-put_terms-requires-clause-count_in_bounds_2 c = (put-few 0 [] [] (addends-made c.requires.ready c.sum-formed.result c.sum-formed.ensures) c.in-Terms.is).1.1
+pub put_terms-requires : goal.put_terms-requires
+put_terms-requires g c =
+    let s = c.terms_of-s.ensures in
+    let t = c.terms_of-t.ensures in
+    let is = addends_formed s.patterns s.coefficients t.patterns t.coefficients c.requires.ready in
+    let made = sum_made c.sum.result _ _ is c.sum.ensures in
+    record {
+      words_room = omega arith;
+      coefficients_room = omega arith;
+      count_le_most_terms = few made c.in_ok-count.was;
+      count_in_sp = in_words made c.in_ok-count.was;
+      count_in_sc = in_coefficients made c.in_ok-count.was;
+    }
 
 pub returns : goal.returns
-returns c = put-formed c.args.i _ _ (addends-made c.requires.ready c.sum-formed.result c.sum-formed.ensures) c.in-Terms.is c.put_terms.ensures.put_at c.put_terms.ensures.put_at_2
+returns g c =
+    let s = c.terms_of-s.ensures in
+    let t = c.terms_of-t.ensures in
+    let is = addends_formed s.patterns s.coefficients t.patterns t.coefficients c.requires.ready in
+    put-formed (sum_made c.sum.result _ _ is c.sum.ensures) c.in_ok-count.was c.args.i c.put_terms.ensures.words_put c.put_terms.ensures.coefficients_put

@@ -1,10 +1,7 @@
 -- `copy_terms` meets its contract: the loop keeps `Copying`.
-use Prim.Native.Nat.{◌-◌}
+use mathlib.Core.Path.{◌≡◌}
 use Rattle.packed.proofs.CopyTerms.{Copying}
 use Rattle.packed.proofs.fast.copy_terms.Given as goal
 
 abbrev pub invariant-loop-k : goal.invariant-loop-k
-invariant-loop-k l = Copying l.bytes l.at l.count l.initial.patterns l.initial.coefficients l.patterns l.coefficients l.place l.k
-
-abbrev pub decreases-loop-k : goal.decreases-loop-k
-decreases-loop-k l = l.count - l.k
+invariant-loop-k l = (Copying l.bytes l.at l.count l.initial.patterns l.initial.coefficients l.patterns l.coefficients l.reader.at l.k) × (l.reader.bytes.now ≡ l.bytes)

@@ -3,5 +3,5 @@ use mathlib.Core.Path.{◌∙◌}
 use Rattle.packed.proofs.Taking.{taken-again}
 use Rattle.packed.proofs.fast.take.Goals as goal
 
-pub returns-then-end-eq0 : goal.returns-then-end-eq0
-returns-then-end-eq0 c = c.take_each.ensures ∙ taken-again c.take_good-end.ensures
+pub returns-in-None : goal.returns-in-None
+returns-in-None c = c.take_each.ensures ∙ taken-again c.take_good.ensures

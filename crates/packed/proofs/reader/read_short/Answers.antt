@@ -6,5 +6,5 @@ use Rattle.packed.proofs.reader.read_short.Goals as goal
 pub returns-then-low-lt128 : goal.returns-then-low-lt128
 returns-then-low-lt128 c = sym (number-byte _ _ c.if-at-bytes.true c.if-low-lt128.true)
 
-pub returns-then-high-gt0 : goal.returns-then-high-gt0
-returns-then-high-gt0 c = sym (number-pair _ _ c.if-at-bytes-2.true c.if-low-lt128.false c.if-high-gt0.true c.if-high-ge128.false)
+pub returns-then-high-lt128 : goal.returns-then-high-lt128
+returns-then-high-lt128 c = sym (number-pair _ _ c.if-at-bytes-2.true c.if-low-lt128.false c.if-high-gt0.true c.if-high-lt128.true)

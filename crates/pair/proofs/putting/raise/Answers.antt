@@ -2,50 +2,42 @@
 use mathlib.Core.Path.{◌≡◌}
 use Prim.Native.Nat.{◌≤◌}
 use native.Mathlib.Omega.{arith}
-use native.Mathlib.Nat.{sub-zero}
-use lib.ListN.{length}
+use mathlib.Core.List.{◌++◌}
+use lib.ListN.{take, drop}
+use Rattle.answers.specs.Areas.{written}
 use Rattle.algebra.specs.Limits.{most_terms}
 use Rattle.algebra.specs.Arithmetic.{◌⊗◌, product_spread}
 use Rattle.algebra.specs.Word.{terms}
 use Rattle.algebra.specs.Held.{first_terms}
 use Rattle.algebra.proofs.Sums.Results.{product-length}
 use Rattle.sums.specs.Formed.{formed_of, within, product_of, formed_into}
+use Rattle.std.proofs.Common.{rules}
 use Rattle.pair.proofs.Copying.{copy-stops, copy-few, copy-formed}
 use Rattle.pair.proofs.putting.raise.Goals as goal
-use Rattle.pair.proofs.putting.raise.Goals.{After-product-formed, In-Terms}
+use Rattle.pair.proofs.putting.raise.Goals.{After-product, In_ok-count}
 
 -- what `product` answers, and how many terms that are
-formed-own : (d : After-product-formed)
+formed-own : (d : After-product)
     → let s = first_terms d.args.n d.args.wp.now d.args.wc.now in
-    let t = terms d.args.sp.now d.args.sc.now in
-    (formed_of d.product-formed.result, d.product-formed.new.patterns, d.product-formed.new.coefficients) ≡ formed_into (within (product_spread s t) (s ⊗ t)) d.args.patterns.now d.args.coefficients.now
+    let t = terms d.args.put.patterns.now d.args.put.coefficients.now in
+    (formed_of d.product.result, d.product.new.patterns, d.product.new.coefficients) ≡ formed_into (within (product_spread s t) (s ⊗ t)) d.args.patterns.now d.args.coefficients.now
 unfolding product_of
-formed-own d = rw (sub-zero d.args.n) at d.product-formed.ensures
+formed-own d = rw (d.first.ensures.patterns, d.first.ensures.coefficients) at d.product.ensures
 
-copied-few : (d : In-Terms) → d.in-Terms.count ≤ most_terms
+copied-few : (d : In_ok-count) → d.in_ok-count.count ≤ most_terms
 unfolding product_of
-copied-few d = copy-few _ _ _ _ d.product-formed.result (rw (sub-zero d.args.n) at d.product-formed.ensures) d.in-Terms.is (product-length _ _)
+copied-few d = copy-few _ _ _ _ d.product.result (rw (d.first.ensures.patterns, d.first.ensures.coefficients) at d.product.ensures) d.in_ok-count.was (product-length _ _)
 
-copy-room : (d : After-product-formed) → (most_terms ≤ length d.product-formed.new.patterns) × (most_terms ≤ length d.product-formed.new.coefficients)
-copy-room d =
-    (omega (arith, d.requires.room_2.words, d.product-formed.auto.patterns), omega (arith, d.requires.room_2.coefficients, d.product-formed.auto.coefficients))
-
-pub returns-in_default : goal.returns-in_default
+pub returns-in_err-count : goal.returns-in_err-count
 unfolding product_of
-returns-in_default c = copy-stops _ _ _ _ c.product-formed.result (formed-own (goal.at.returns-in_default c).After-product-formed) c.in_default.not-Terms _ _
+returns-in_err-count c = rw c.from_residual.ensures (copy-stops _ _ _ _ c.product.result (formed-own (goal.at.returns-in_err-count c).After-product) c.in_err-count.was _ _)
 
-pub copy_words-requires-clause-count_in_bounds : goal.copy_words-requires-clause-count_in_bounds
-copy_words-requires-clause-count_in_bounds c = let few = copied-few (goal.at.copy_words-requires-clause-count_in_bounds c).In-Terms in omega (arith, few, c.requires.room.words)
-
-pub copy_words-requires-clause-count_in_bounds_2 : goal.copy_words-requires-clause-count_in_bounds_2
-copy_words-requires-clause-count_in_bounds_2 c = let few = copied-few (goal.at.copy_words-requires-clause-count_in_bounds_2 c).In-Terms in omega (arith, few, (copy-room (goal.at.copy_words-requires-clause-count_in_bounds_2 c).After-product-formed).0)
-
-pub copy_coefficients-requires-clause-count_in_bounds : goal.copy_coefficients-requires-clause-count_in_bounds
-copy_coefficients-requires-clause-count_in_bounds c = let few = copied-few (goal.at.copy_coefficients-requires-clause-count_in_bounds c).In-Terms in omega (arith, few, c.requires.room.coefficients)
-
-pub copy_coefficients-requires-clause-count_in_bounds_2 : goal.copy_coefficients-requires-clause-count_in_bounds_2
-copy_coefficients-requires-clause-count_in_bounds_2 c = let few = copied-few (goal.at.copy_coefficients-requires-clause-count_in_bounds_2 c).In-Terms in omega (arith, few, (copy-room (goal.at.copy_coefficients-requires-clause-count_in_bounds_2 c).After-product-formed).1)
+pub prove-unreachable-requires : goal.prove-unreachable-requires
+prove-unreachable-requires c = let few = copied-few (goal.at.prove-unreachable-requires c).In_ok-count in omega (arith, few, c.if-prove.true)
 
 pub returns : goal.returns
 unfolding product_of
-returns c = copy-formed _ _ _ _ c.product-formed.result (formed-own (goal.at.returns c).After-product-formed) c.in-Terms.is _ _ c.copy_words.ensures c.copy_coefficients.ensures
+returns c =
+    let words : c.copy_from_slice.new.self ++ drop c.in_ok-count.count c.args.wp.now ≡ written (take c.in_ok-count.count c.product.new.patterns) c.args.wp.now = search rules in
+    let coefficients : c.copy_from_slice-2.new.self ++ drop c.in_ok-count.count c.args.wc.now ≡ written (take c.in_ok-count.count c.product.new.coefficients) c.args.wc.now = search rules in
+    copy-formed _ _ _ _ c.product.result (formed-own (goal.at.returns c).After-product) c.in_ok-count.was _ _ words coefficients

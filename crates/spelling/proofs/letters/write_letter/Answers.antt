@@ -31,13 +31,10 @@ pub bounds-area-at : goal.bounds-area-at
 unfolding letter_text
 bounds-area-at c = byte-room (start c.args.area.now c.args.at (letter_text c.args.v c.args.e) c.requires.e_in_bounds) _ _ refl
 
-pub returns-then-e-eq1-clause-value : goal.returns-then-e-eq1-clause-value
+pub returns-then-e-eq1 : goal.returns-then-e-eq1
 unfolding name_of
-returns-then-e-eq1-clause-value c = (finished (left_as (letter-alone _ _ c.if-e-eq1.true) (start _ _ _ c.requires.e_in_bounds)) refl refl).0
-
-pub returns-then-e-eq1-clause-area_after : goal.returns-then-e-eq1-clause-area_after
-unfolding name_of
-returns-then-e-eq1-clause-area_after c = (finished (left_as (letter-alone _ _ c.if-e-eq1.true) (start _ _ _ c.requires.e_in_bounds)) refl refl).1
+returns-then-e-eq1 c =
+    let all = finished (left_as (letter-alone _ _ c.if-e-eq1.true) (start _ _ _ c.requires.e_in_bounds)) refl refl in record { value = all.0; area_after = all.1 }
 
 pub bounds-area-after : goal.bounds-area-after
 unfolding name_of
@@ -47,13 +44,10 @@ pub bounds-area-tens : goal.bounds-area-tens
 unfolding name_of
 bounds-area-tens c = byte-room (one_left c) _ _ refl
 
-pub returns-then-e-lt10-clause-value : goal.returns-then-e-lt10-clause-value
+pub returns-then-e-lt10 : goal.returns-then-e-lt10
 unfolding name_of
-returns-then-e-lt10-clause-value c = (finished (one_left c) refl refl).0
-
-pub returns-then-e-lt10-clause-area_after : goal.returns-then-e-lt10-clause-area_after
-unfolding name_of
-returns-then-e-lt10-clause-area_after c = (finished (one_left c) refl refl).1
+returns-then-e-lt10 c =
+    let all = finished (one_left c) refl refl in record { value = all.0; area_after = all.1 }
 
 pub bounds-area-tens-2 : goal.bounds-area-tens-2
 unfolding name_of
@@ -63,10 +57,7 @@ pub bounds-area-ones : goal.bounds-area-ones
 unfolding name_of
 bounds-area-ones c = byte-room (byte (two-left c) _ _ refl) _ _ refl
 
-pub returns-clause-value : goal.returns-clause-value
+pub returns : goal.returns
 unfolding name_of
-returns-clause-value c = (finished (byte (two-left c) _ _ refl) refl refl).0
-
-pub returns-clause-area_after : goal.returns-clause-area_after
-unfolding name_of
-returns-clause-area_after c = (finished (byte (two-left c) _ _ refl) refl refl).1
+returns c =
+    let all = finished (byte (two-left c) _ _ refl) refl refl in record { value = all.0; area_after = all.1 }

@@ -25,8 +25,6 @@ loop-v-preserved c = next (letter c.loop-v.v c.exponent.result) (letters_left c.
     c.write_joined-place.ensures.area_after
     c.write_joined-place.ensures.value
 
-pub returns-clause-value : goal.returns-clause-value
-returns-clause-value c = (ended (none_left (no-letter _ _ c.loop-v-test.false)) c.loop-v.invariant).0
-
-pub returns-clause-area_after : goal.returns-clause-area_after
-returns-clause-area_after c = (ended (none_left (no-letter _ _ c.loop-v-test.false)) c.loop-v.invariant).1
+pub returns : goal.returns
+returns c =
+    let all = ended (none_left (no-letter _ _ c.loop-v-test.false)) c.loop-v.invariant in record { value = all.0; area_after = all.1 }

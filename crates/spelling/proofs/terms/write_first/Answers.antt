@@ -12,21 +12,19 @@ use Rattle.spelling.proofs.terms.write_first.Goals.{Else-coefficient-ge0, Then-c
 
 -- where the coefficient is at least 0, the factors are left to write; else a minus and the factors are
 upward : (d : Then-coefficient-ge0) → Writing d.args.area.now d.args.at (first_text (term d.args.coefficient (exponents d.args.pattern.0))) d.args.area.now d.args.at
-    (factors_text d.absolute-size.result (powers 0 (exponents d.args.pattern.0)))
-upward d = left_as (first-up _ d.ranges.coefficient _ d.absolute-size.ensures d.if-coefficient-ge0.true) (start _ _ _ d.requires.pattern_in_bounds)
+    (factors_text d.unsigned_abs-size.result (powers 0 (exponents d.args.pattern.0)))
+upward d = left_as (first-up _ d.ranges.coefficient _ d.unsigned_abs-size.ensures.value d.if-coefficient-ge0.true) (start _ _ _ d.requires.pattern_in_bounds)
 
 downward : (d : Else-coefficient-ge0) → Writing d.args.area.now d.args.at (first_text (term d.args.coefficient (exponents d.args.pattern.0))) d.args.area.now d.args.at
-    (minus_sign ∷ factors_text d.absolute-size.result (powers 0 (exponents d.args.pattern.0)))
-downward d = left_as (first-down _ d.ranges.coefficient _ d.absolute-size.ensures d.if-coefficient-ge0.false) (start _ _ _ d.requires.pattern_in_bounds)
+    (minus_sign ∷ factors_text d.unsigned_abs-size.result (powers 0 (exponents d.args.pattern.0)))
+downward d = left_as (first-down _ d.ranges.coefficient _ d.unsigned_abs-size.ensures.value d.if-coefficient-ge0.false) (start _ _ _ d.requires.pattern_in_bounds)
 
 pub write_factors-requires-clause-pattern_in_bounds : goal.write_factors-requires-clause-pattern_in_bounds
 write_factors-requires-clause-pattern_in_bounds c = (upward (goal.at.write_factors-requires-clause-pattern_in_bounds c).Then-coefficient-ge0).room
 
-pub returns-then-coefficient-ge0-clause-value : goal.returns-then-coefficient-ge0-clause-value
-returns-then-coefficient-ge0-clause-value c = (finished (upward (goal.at.returns-then-coefficient-ge0-clause-value c).Then-coefficient-ge0) c.write_factors.ensures.value c.write_factors.ensures.area_after).0
-
-pub returns-then-coefficient-ge0-clause-area_after : goal.returns-then-coefficient-ge0-clause-area_after
-returns-then-coefficient-ge0-clause-area_after c = (finished (upward (goal.at.returns-then-coefficient-ge0-clause-area_after c).Then-coefficient-ge0) c.write_factors.ensures.value c.write_factors.ensures.area_after).1
+pub returns-then-coefficient-ge0 : goal.returns-then-coefficient-ge0
+returns-then-coefficient-ge0 c =
+    let all = finished (upward (goal.at.returns-then-coefficient-ge0 c).Then-coefficient-ge0) c.write_factors.ensures.value c.write_factors.ensures.area_after in record { value = all.0; area_after = all.1 }
 
 pub bounds-area-at : goal.bounds-area-at
 bounds-area-at c = byte-room (downward c) _ _ refl
@@ -34,8 +32,6 @@ bounds-area-at c = byte-room (downward c) _ _ refl
 pub write_factors-requires-2-clause-pattern_in_bounds : goal.write_factors-requires-2-clause-pattern_in_bounds
 write_factors-requires-2-clause-pattern_in_bounds c = (byte (downward (goal.at.write_factors-requires-2-clause-pattern_in_bounds c).Else-coefficient-ge0) _ _ refl).room
 
-pub returns-clause-value : goal.returns-clause-value
-returns-clause-value c = (finished (byte (downward (goal.at.returns-clause-value c).Else-coefficient-ge0) _ _ refl) c.write_factors-2.ensures.value c.write_factors-2.ensures.area_after).0
-
-pub returns-clause-area_after : goal.returns-clause-area_after
-returns-clause-area_after c = (finished (byte (downward (goal.at.returns-clause-area_after c).Else-coefficient-ge0) _ _ refl) c.write_factors-2.ensures.value c.write_factors-2.ensures.area_after).1
+pub returns : goal.returns
+returns c =
+    let all = finished (byte (downward (goal.at.returns c).Else-coefficient-ge0) _ _ refl) c.write_factors-2.ensures.value c.write_factors-2.ensures.area_after in record { value = all.0; area_after = all.1 }

@@ -8,5 +8,5 @@ use Rattle.algebra.specs.Word.{terms}
 use Rattle.sums.proofs.Counts.{spread-below}
 use Rattle.sums.proofs.adding.fits.Goals as goal
 
-pub returns-then-sp-tp-le-MOST_TERMS : goal.returns-then-sp-tp-le-MOST_TERMS
-returns-then-sp-tp-le-MOST_TERMS c = sym (le-leb (sum_spread (terms c.args.sp.now c.args.sc.now) (terms c.args.tp.now c.args.tc.now)) most_terms (omega (arith, spread-below c.requires.held c.requires.held_2, c.if-sp-tp-le-MOST_TERMS.true)))
+pub returns-then-s-t-le-MOST_TERMS : goal.returns-then-s-t-le-MOST_TERMS
+returns-then-s-t-le-MOST_TERMS c = sym (le-leb (sum_spread (terms c.args.s.patterns.now c.args.s.coefficients.now) (terms c.args.t.patterns.now c.args.t.coefficients.now)) most_terms (omega (arith, spread-below c.requires.held c.requires.held_2, c.if-s-t-le-MOST_TERMS.true)))

@@ -10,14 +10,14 @@ stands-requires-clause-each_valid c = each-valid c.loop-x.invariant.first
 pub stands-requires-clause-each_valid_2 : goal.stands-requires-clause-each_valid_2
 stands-requires-clause-each_valid_2 c = each-valid c.loop-x.invariant.second
 
-pub loop-x-preserved-in-Before : goal.loop-x-preserved-in-Before
-loop-x-preserved-in-Before c = steps_first c.loop-x.invariant c.loop-x-test.true (sym c.stands.ensures ∙ ap standing c.in-Before.is)
+pub loop-x-preserved-in-Less : goal.loop-x-preserved-in-Less
+loop-x-preserved-in-Less c = steps_first c.loop-x.invariant c.loop-x-test.true (sym c.stands.ensures ∙ ap standing c.in-Less.is)
 
-pub loop-x-preserved-in-Same : goal.loop-x-preserved-in-Same
-loop-x-preserved-in-Same c = steps-both c.loop-x.invariant c.loop-x-test.true (sym c.stands.ensures ∙ ap standing c.in-Same.is)
+pub loop-x-preserved-in-Equal : goal.loop-x-preserved-in-Equal
+loop-x-preserved-in-Equal c = steps-both c.loop-x.invariant c.loop-x-test.true (sym c.stands.ensures ∙ ap standing c.in-Equal.is)
 
 pub loop-x-preserved : goal.loop-x-preserved
-loop-x-preserved c = steps-second c.loop-x.invariant c.loop-x-test.true (sym c.stands.ensures ∙ ap standing c.in-After.is)
+loop-x-preserved c = steps-second c.loop-x.invariant c.loop-x-test.true (sym c.stands.ensures ∙ ap standing c.in-Greater.is)
 
 pub returns : goal.returns
 returns c = finally c.loop-x.invariant c.loop-x-test.false

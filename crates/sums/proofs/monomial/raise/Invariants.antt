@@ -1,10 +1,6 @@
 -- `raise` meets its contract: the loop keeps the power so far.
-use Prim.Native.Nat.{◌-◌}
 use Rattle.sums.proofs.OneTerm.{Raises}
 use Rattle.sums.proofs.monomial.raise.Given as goal
 
-abbrev pub invariant-loop-k : goal.invariant-loop-k
-invariant-loop-k l = Raises l.sp l.sc l.e l.power l.k
-
-abbrev pub decreases-loop-k : goal.decreases-loop-k
-decreases-loop-k l = l.e - l.k
+abbrev pub invariant-loop : goal.invariant-loop
+invariant-loop l = Raises l.s.patterns.now l.s.coefficients.now l.e l.power l.counter

@@ -1,10 +1,6 @@
 -- `close` meets its contract: the loop keeps `Closing`, for each of the two areas.
-use Prim.Native.Nat.{◌-◌}
 use Rattle.sums.proofs.Closing.{Closing}
 use Rattle.sums.proofs.rows.close.Given as goal
 
 abbrev pub invariant-loop-k : goal.invariant-loop-k
 invariant-loop-k l = Closing l.initial.ranks l.from l.to l.end l.ranks l.i l.k × Closing l.initial.coefficients l.from l.to l.end l.coefficients l.i l.k
-
-abbrev pub decreases-loop-k : goal.decreases-loop-k
-decreases-loop-k l = l.end - l.k

@@ -12,12 +12,12 @@ use Rattle.sums.proofs.rows.merge_row.Goals.{After-merge-gap}
 
 -- both areas have room for the row
 room : (d : After-merge-gap)
-    → (d.args.n + length d.args.tr.now ≤ length d.merge-gap.new.ranks) × (d.args.n + length d.args.tr.now ≤ length d.merge-gap.new.coefficients)
+    → (d.args.n + length d.args.t.patterns.now ≤ length d.merge-gap.new.ranks) × (d.args.n + length d.args.t.patterns.now ≤ length d.merge-gap.new.coefficients)
 room d =
-    let row = length-map d.args.tr.now word_at in
+    let row = length-map d.args.t.patterns.now word_at in
     (omega (arith, d.requires.words_room, row, length-map d.args.ranks.now word_at, d.merge-gap.auto.ranks), omega (arith, d.requires.coefficients_room, row, d.merge-gap.auto.coefficients))
 
 pub returns : goal.returns
-returns c = let end = c.args.n + length c.args.tr.now in
+returns c = let end = c.args.n + length c.args.t.patterns.now in
     gap-closed (rw (to_z-of_z w64 c.args.c c.ranges.c) at c.merge-gap.ensures) (omega (arith, (room (goal.at.returns c).After-merge-gap).0, length-map (c.merge-gap.new.ranks) word_at)) c.close.ensures.value
     (words-closed c.merge-gap.result.from c.merge-gap.result.to end c.merge-gap.new.ranks c.close.result c.close.new.ranks c.close.ensures.ranks_after) c.close.ensures.coefficients_after

@@ -1,6 +1,5 @@
 -- `rank_words` meets its contract: the ranks are copied.
 use mathlib.Core.List.{map}
-use Prim.Native.Nat.{◌-◌}
 use lib.ListN.{length}
 use Rattle.algebra.specs.Word.{EachValid}
 use Rattle.algebra.specs.Inside.Rank.{rank_of}
@@ -9,6 +8,3 @@ use Rattle.sums.proofs.rows.rank_words.Given as goal
 
 abbrev pub invariant-loop-k : goal.invariant-loop-k
 invariant-loop-k l = Copying l.initial.ranks (map rank_of l.words) (length l.words) l.ranks l.k × EachValid l.words
-
-abbrev pub decreases-loop-k : goal.decreases-loop-k
-decreases-loop-k l = length l.words - l.k

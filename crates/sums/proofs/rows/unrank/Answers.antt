@@ -4,4 +4,4 @@ use Rattle.answers.proofs.Copies.{again}
 use Rattle.sums.proofs.rows.unrank.Goals as goal
 
 pub loop-k-preserved : goal.loop-k-preserved
-loop-k-preserved c = rw (c.of_rank-pattern.ensures ∙ sym (words-at c.args.ranks.now c.loop-k.k)) (again 0 _ _ _ _ _ c.loop-k.invariant c.loop-k-test.true)
+loop-k-preserved c = rw (c.of_rank.ensures ∙ sym (words-at c.args.ranks.now c.loop-k.k)) (again 0 _ _ _ _ _ c.loop-k.invariant c.loop-k-test.true)

@@ -1,5 +1,4 @@
 -- `unrank` meets its contract: the words are copied.
-use Prim.Native.Nat.{◌-◌}
 use lib.ListN.{length}
 use Rattle.algebra.specs.Inside.Rank.{words_at}
 use Rattle.answers.proofs.Copies.{Copying}
@@ -7,6 +6,3 @@ use Rattle.sums.proofs.rows.unrank.Given as goal
 
 abbrev pub invariant-loop-k : goal.invariant-loop-k
 invariant-loop-k l = Copying l.initial.words (words_at l.ranks) (length l.ranks) l.words l.k
-
-abbrev pub decreases-loop-k : goal.decreases-loop-k
-decreases-loop-k l = length l.ranks - l.k

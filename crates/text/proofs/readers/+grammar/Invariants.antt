@@ -18,13 +18,13 @@ abbrev pub decreases-read_sum : goal.decreases-read_sum
 decreases-read_sum l = 4 * (l.levels + (length l.text.now - l.at)) + 3
 
 abbrev pub invariant-read_term-loop-table : goal.invariant-read_term-loop-table
-invariant-read_term-loop-table l = TermLoop l.levels l.text l.at l.nodes l.fn.table l.next l.term_nodes l.table
+invariant-read_term-loop-table l = TermLoop l.levels l.text l.at l.fn.table.nodes l.fn.table.rows l.next l.table.nodes l.table.rows
 
 abbrev pub decreases-read_term-loop-table : goal.decreases-read_term-loop-table
 decreases-read_term-loop-table l = length l.text - l.next
 
 abbrev pub invariant-read_sum-loop-at : goal.invariant-read_sum-loop-at
-invariant-read_sum-loop-at l = SumLoop l.levels l.text l.at l.nodes l.fn.table l.next l.sum_nodes l.table
+invariant-read_sum-loop-at l = SumLoop l.levels l.text l.at l.fn.table.nodes l.fn.table.rows l.next l.table.nodes l.table.rows
 
 abbrev pub decreases-read_sum-loop-at : goal.decreases-read_sum-loop-at
 decreases-read_sum-loop-at l = length l.text - l.next

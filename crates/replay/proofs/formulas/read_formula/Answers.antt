@@ -1,7 +1,0 @@
--- `read_formula` meets its contract: what is told of the table stands within it.
-use Rattle.replay.proofs.Shows.{shows-as}
-use Rattle.replay.proofs.Shown.{text-shows}
-use Rattle.replay.proofs.formulas.read_formula.Goals as goal
-
-pub tell_table-requires-clause-shows : goal.tell_table-requires-clause-shows
-tell_table-requires-clause-shows c = shows-as c.answered-told.ensures (text-shows _ _ c.read_formula.ensures)
