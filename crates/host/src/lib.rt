@@ -13,7 +13,7 @@ ghost use Rattle.change.specs.Substitute.{substitute};
 ghost use Rattle.router.specs.Estimate as router;
 ghost use Rattle.spelling.specs.WriteText.{write_text};
 
-use answers::{NARROW_UNIT, WIDE_UNIT, for_host};
+use answers::{WIDE_UNIT, for_host};
 
 pub fn reeveboom_text(text: &[u8], table: &mut [i64]) -> u64
     ensures { (result, table.new) ≡ hosted wide_unit (read_formula text.now table.old) }
@@ -81,10 +81,7 @@ pub fn reeveboom_estimate(sum: &[u8], readings: &[u8], tolerances: &[u8], answer
     ensures { (result, answer.new)
         ≡ hosted narrow_unit (router.estimate sum.now readings.now tolerances.now answer.old) }
 {
-    for_host(
-        router::estimate(sum, readings, tolerances, answer),
-        NARROW_UNIT,
-    )
+    router::reeveboom_estimate(sum, readings, tolerances, answer)
 }
 
 pub fn reeveboom_write(sum: &[u8], text: &mut [u8]) -> u64

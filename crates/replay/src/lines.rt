@@ -6,6 +6,7 @@ ghost use Rattle.replay.specs.Hex.{hex_digits, in_hex, Writes};
 
 use crate::filling::Fate;
 use crate::places::Place;
+use crate::telling::HostRefusal;
 use numbers::bytes::write_bytes;
 
 fn write_number(out: &mut [u8], at: usize, n: usize) -> usize
@@ -69,14 +70,14 @@ pub(crate) fn done(out: &mut [u8], n: usize) -> usize
     write_number(out, at, n)
 }
 
-pub(crate) fn refused(out: &mut [u8], refusal: usize, place: usize) -> usize
+pub(crate) fn refused(out: &mut [u8], told: HostRefusal) -> usize
     requires { 49 ≤ length out.old }
     ensures { result ≤ 49 }
 {
     let at = write_bytes(out, 0, b"refused ");
-    let after = write_number(out, at, refusal);
+    let after = write_number(out, at, told.refusal);
     out[after] = b' ';
-    write_number(out, after + 1, place)
+    write_number(out, after + 1, told.place)
 }
 
 // A whole line.

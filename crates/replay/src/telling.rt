@@ -75,7 +75,7 @@ fn tell_area<T: Place>(told: Told, each: usize, area: &[T], out: &mut [u8]) -> u
             lines::fate(out, next, filling::result_fate(area, count))
         }
         Err(refused) => {
-            let at = lines::refused(out, refused.refusal, refused.place);
+            let at = lines::refused(out, refused);
             lines::fate(out, at, filling::result_fate(area, 0))
         }
     }
@@ -149,7 +149,7 @@ pub(crate) fn tell_terms(
             tell_fates(patterns, coefficients, n, out, last)
         }
         Err(refused) => {
-            let at = lines::refused(out, refused.refusal, refused.place);
+            let at = lines::refused(out, refused);
             tell_fates(patterns, coefficients, 0, out, at)
         }
     }
