@@ -2,10 +2,6 @@
 use Rattle.std.proofs.Common.{◌≡◌, refl, ap, ℕ, Result, Ok, Err, arith}
 use Rattle.std.specs.Result.{MatchResult, IsErrAnd}
 use Rattle.std.proofs.lemmas.Result.{err_from_is_err_and}
-use Rattle.answers.specs.declared.Refused.{Refused}
-
-abbrev pub NotDone : Result ℕ Refused → Type 0
-NotDone r = (n : ℕ) → r ≡ Ok n → ⊥
 
 -- P says which errors `map_err` makes of which
 abbrev pub MapsErr : {T E D : Type 0} → (E → D → Type 0) → Result T E → Result T D → Type 0

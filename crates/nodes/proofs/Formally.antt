@@ -7,13 +7,13 @@ use lib.Dec.{T, ltb, leb, ltb→lt, leb→le}
 use lib.IntN.{pos}
 use lib.ListN.{length, get_or, length-map, get_or-map}
 use native.Mathlib.Omega.{arith}
-use Rattle.algebra.specs.Limits.{variables, largest_degree}
+use Rattle.algebra.specs.Limits.{largest_degree}
 use lib.Ieee.Fits.{and_l, and_r}
 use Rattle.nodes.specs.Node.{is_node}
 use Rattle.nodes.specs.Inside.Children.{EachAtMost}
 use Rattle.nodes.specs.Inside.Code.{kind_of, formal_degrees, formal_weights}
 use Rattle.nodes.specs.declared.Kind.{Kind}
-use Rattle.nodes.specs.declared.Kind.TheVariants.{Integer, Variable, Sum, Product, Power}
+use Rattle.nodes.specs.declared.Kind.TheVariants.{Integer, Power}
 use Rattle.nodes.specs.declared.Node.{Node}
 
 -- ---- The children of node n are before it.
@@ -29,15 +29,6 @@ module _ (n : ℕ) where
 module _ (n : ℕ) {k : Kind} (node : T (is_node n (kind_of k))) where
   at-kind : {other : Kind} → k ≡ other → T (is_node n (kind_of other))
   at-kind e = subst (λ x. T (is_node n (kind_of x))) e node
-
-  pub variable-small : {v : ℕ} → k ≡ Variable v → v < variables
-  variable-small {v} e = ltb→lt v variables (at-kind e)
-
-  pub sum-children : {a b : ℕ} → k ≡ Sum a b → (a < n) × (b < n)
-  sum-children {a} {b} e = two-children n a b (at-kind e)
-
-  pub product-children : {a b : ℕ} → k ≡ Product a b → (a < n) × (b < n)
-  product-children {a} {b} e = two-children n a b (at-kind e)
 
   pub power-child : {a e : ℕ} → k ≡ Power a e → (a < n) × (e ≤ largest_degree)
   power-child {a} {e} p = base-child n a e (at-kind p)

@@ -144,46 +144,42 @@ module _ {i a e : ℕ} {ns : List ℕ} {ws : List ℕ} {cs : List ℤ} (r : Read
 module _ {i a b : ℕ} {ns : List ℕ} {ws : List ℕ} {cs : List ℤ} {sp tp : List ℕ} {sc tc : List ℤ}
     (words : sp ≡ take (get_or ns a 0) (part a ws)) (coefficients : sc ≡ take (get_or ns a 0) (part a cs))
     (words' : tp ≡ take (get_or ns b 0) (part b ws)) (coefficients' : tc ≡ take (get_or ns b 0) (part b cs)) where
+  -- of any node of the two, what they are
+  module _ {k : Kind} (r : Ready i ns ws cs k) (children : (a < i) × (b < i)) where
+    first_is : terms sp sc ≡ get_or (sums_at i ns ws cs) a []
+    first_is = operand_is r children.0 words coefficients
+
+    second_is : terms tp tc ≡ get_or (sums_at i ns ws cs) b []
+    second_is = operand_is r children.1 words' coefficients'
+
   module _ (r : Ready i ns ws cs (sum a b)) where
     addends : (a < i) × (b < i)
     addends = two-children i a b r.node_is
-
-    addend_is : terms sp sc ≡ get_or (sums_at i ns ws cs) a []
-    addend_is = operand_is r addends.0 words coefficients
-
-    other_addend_is : terms tp tc ≡ get_or (sums_at i ns ws cs) b []
-    other_addend_is = operand_is r addends.1 words' coefficients'
 
     pub addends_asked : Addends sp sc tp tc
     addends_asked = record {
       first = operand_held r addends.0 words coefficients;
       second = operand_held r addends.1 words' coefficients';
-      light = addends-light (sums_at i ns ws cs) a b addend_is other_addend_is r.light;
+      light = addends-light (sums_at i ns ws cs) a b (first_is r addends) (second_is r addends) r.light;
     }
 
     pub addends_formed : sum_of (terms sp sc) (terms tp tc) ≡ node_formed (sums_at i ns ws cs) (sum a b)
-    addends_formed = addends-formed (sums_at i ns ws cs) a b addend_is other_addend_is
+    addends_formed = addends-formed (sums_at i ns ws cs) a b (first_is r addends) (second_is r addends)
 
   module _ (r : Ready i ns ws cs (product a b)) where
     factors : (a < i) × (b < i)
     factors = two-children i a b r.node_is
 
-    factor_is : terms sp sc ≡ get_or (sums_at i ns ws cs) a []
-    factor_is = operand_is r factors.0 words coefficients
-
-    other_factor_is : terms tp tc ≡ get_or (sums_at i ns ws cs) b []
-    other_factor_is = operand_is r factors.1 words' coefficients'
-
     pub factors_asked : Factors sp sc tp tc
     factors_asked = record {
       first = (operand_held r factors.0 words coefficients).held;
       second = (operand_held r factors.1 words' coefficients').held;
-      low = factors-low (sums_at i ns ws cs) a b factor_is other_factor_is r.low;
-      light = factors-light (sums_at i ns ws cs) a b factor_is other_factor_is r.light;
+      low = factors-low (sums_at i ns ws cs) a b (first_is r factors) (second_is r factors) r.low;
+      light = factors-light (sums_at i ns ws cs) a b (first_is r factors) (second_is r factors) r.light;
     }
 
     pub factors_formed : product_of (terms sp sc) (terms tp tc) ≡ node_formed (sums_at i ns ws cs) (product a b)
-    factors_formed = factors-formed (sums_at i ns ws cs) a b factor_is other_factor_is
+    factors_formed = factors-formed (sums_at i ns ws cs) a b (first_is r factors) (second_is r factors)
 
 -- what was formed, by another name
 pub renamed : {i : ℕ} {f g : Formed Sum} {answer : Formed ℕ} {ws ws' : List ℕ} {cs cs' : List ℤ} → g ≡ f → FormedAt i g answer ws cs ws' cs' → FormedAt i f answer ws cs ws' cs'

@@ -1,13 +1,13 @@
 -- The terms in the first places of two areas: how many they are, and the one at a place.
-use mathlib.Core.Path.{◌≡◌, sym, ◌∙◌, ap, ap₂, subst}
+use mathlib.Core.Path.{◌≡◌, sym, ◌∙◌, ap, ap₂}
 use mathlib.Core.List.{List, ◌∷◌}
 use Prim.Native.Nat.{ℕ, ◌+◌, ◌≤◌, ◌<◌}
 use native.Mathlib.Numerals.{add-one}
 use lib.IntN.{ℤ, pos}
 use lib.ListN.{length, get_or, take, drop}
-use lib.Seq.{drop-cons, get_or-take, length-take-le}
+use lib.Seq.{drop-cons, length-take-le}
 use Rattle.algebra.specs.Sum.{Term, term, Sum}
-use Rattle.algebra.specs.Word.{word, exponents, terms, Valid, EachValid}
+use Rattle.algebra.specs.Word.{word, exponents, terms, EachValid}
 use Rattle.algebra.proofs.Patterns.Held.{held-length, held_at, held-words, held-coefficients}
 use Rattle.algebra.specs.Held.{words_of, coefficients_of, first_terms}
 
@@ -29,26 +29,12 @@ module _ (ws : List ℕ) (cs : List ℤ) (as_many : length cs ≡ length ws) whe
       drop-cons all k (at_place ws cs k) (rw terms-length h)
       ∙ ap₂ (λ (t : Term) (s : Sum). t ∷ s) is (ap (λ (i : ℕ). drop i all) (sym (add-one k)))
 
--- the word at a place is valid
-pub valid-at : (count : ℕ) (ws : List ℕ) → count ≤ length ws → EachValid (take count ws) → (k : ℕ) → k < count → Valid (get_or ws k 0)
-valid-at count ws words valid k h = subst Valid (get_or-take count ws k 0 h) (valid k (rw (length-take-le count ws words) h))
-
 module _ (count : ℕ) (ws : List ℕ) (cs : List ℤ) (words : count ≤ length ws) (coefficients : count ≤ length cs) where
   pub front_length : length (first_terms count ws cs) ≡ count
   unfolding terms
   front_length =
       let many : length (take count ws) ≡ count = length-take-le count ws words in
       held-length exponents (take count ws) (take count cs) (many ∙ sym (length-take-le count cs coefficients)) ∙ many
-
-  pub front-next : (k : ℕ) → k < count → drop k (first_terms count ws cs) ≡ at_place ws cs k ∷ drop (k + 1) (first_terms count ws cs)
-  unfolding terms
-  front-next k h =
-      let all = first_terms count ws cs in
-      let is : get_or all k (at_place ws cs k) ≡ at_place ws cs k =
-      held_at exponents k (take count ws) (take count cs) (at_place ws cs k) (rw (length-take-le count ws words) h) (rw (length-take-le count cs coefficients) h)
-      ∙ ap₂ (λ (c : ℤ) (w : ℕ). term c (exponents w)) (get_or-take count cs k (pos 0) h) (get_or-take count ws k 0 h) in
-      drop-cons all k (at_place ws cs k) (rw front_length h)
-      ∙ ap₂ (λ (t : Term) (s : Sum). t ∷ s) is (ap (λ (i : ℕ). drop i all) (sym (add-one k)))
 
   -- the words and the coefficients again
   alike : length (take count ws) ≡ length (take count cs)

@@ -31,13 +31,6 @@ module _ (s : List ℕ) (at : ℕ) {count next : ℕ} (read : read_number s at �
   unfolding read_count
   count-taken h = sym (then-got _ read ∙ provided-yes bad at _ (leb count most_terms) (le→leb count most_terms h))
 
-pub count-few : (s : List ℕ) (at : ℕ) {count next : ℕ} → read_count s at ≡ got count next → count ≤ most_terms
-unfolding read_count
-count-few s at e =
-    let number = through _ _ _ _ e in
-    let judged = passed _ _ _ _ _ _ number.second in
-    carry (λ (n : ℕ) (next : ℕ). n ≤ most_terms) judged.1 (leb→le number.value most_terms judged.0)
-
 -- ---- The terms after it.
 
 split-count : (at : ℕ) (f : ℕ → ℕ → Item Fault Sum) (r : Item Fault ℕ)

@@ -44,13 +44,6 @@ pub into-stops : {x : Item Fault ℕ} {all : Item Fault Sum} (ws : List ℕ) (cs
 unfolding read_into
 into-stops ws cs both = refl
 
--- the arrays have a place for each term
-pub terms-room : (count : ℕ) (s : List ℕ) (next : ℕ) {ws₀ : List ℕ} {cs₀ : List ℤ} {ws : List ℕ} {cs : List ℤ} {n end : ℕ} → ReadAt (read_terms variables count [] s next) ws₀ cs₀ ws cs n end
-    → (count ≤ length ws) × (count ≤ length cs)
-terms-room count s next {ws₀} {cs₀} {ws} {cs} {n} {end} t =
-    let many = terms-many variables count [] t.sum s next end t.read in
-    ((words-first t many).1, (coefficients-first t many).1)
-
 module _ (s : List ℕ) (at : ℕ) where
   -- a fault of the count, or of the terms, is one of the sum
   pub count-faulty : {x : Item Fault ℕ} → Alike x (read_count s at) → Alike x (read_sum variables s at)

@@ -4,11 +4,11 @@ use mathlib.Core.List.{List}
 use Prim.Native.Nat.{ℕ, ◌≤◌}
 use native.Mathlib.Omega.{arith}
 use lib.IntN.{ℤ}
-use lib.ListN.{length, take, drop, length-take, length-drop, length-append, length-map}
+use lib.ListN.{length, take, drop, length-drop, length-append, length-map}
 use lib.Seq.{length-take-le}
 use Rattle.algebra.specs.Limits.{most_terms}
-use Rattle.algebra.specs.Sum.{Term, Sum}
-use Rattle.algebra.specs.Word.{word, terms}
+use Rattle.algebra.specs.Sum.{Sum}
+use Rattle.algebra.specs.Word.{terms}
 use Rattle.algebra.specs.Held.{words_of, coefficients_of, first_terms}
 use Rattle.answers.specs.Areas.{written}
 use Rattle.answers.proofs.Writes.{written-front}
@@ -23,12 +23,6 @@ pub record Placed (s : Sum) (n : ℕ) (ws : List ℕ) (cs : List ℤ) : Type 0 w
 module _ {s : Sum} {n : ℕ} {ws : List ℕ} {cs : List ℤ} (p : Placed s n ws cs) where
   pub placed-few : n ≤ most_terms
   placed-few = omega (arith, p.stands.number_is, p.holdable.few)
-
-  pub placed-inside : (n ≤ length ws) × (n ≤ length cs)
-  placed-inside = (
-    omega (arith, length-take n ws, ap length p.stands.words_are, length-map s (λ (t : Term). word t.pattern), p.stands.number_is),
-    omega (arith, length-take n cs, ap length p.stands.coefficients_are, length-map s (λ (t : Term). t.coefficient), p.stands.number_is),
-  )
 
   pub placed-is : first_terms n ws cs ≡ s
   placed-is = ap₂ terms p.stands.words_are p.stands.coefficients_are ∙ spells p.holdable

@@ -5,12 +5,12 @@ use Prim.Native.Nat.{ℕ, suc, ◌+◌, ◌*◌, ◌^◌, ◌/◌, ◌%◌, ◌-
 use native.Mathlib.Omega.{arith}
 use borrow.Author.Tests.{eq-eqb}
 use lib.Dec.{T, eqb, leb, eqb→eq, leb→le, le→leb}
-use lib.ListN.{length, drop, set, length-set, length-drop}
+use lib.ListN.{length, set, length-set}
 use lib.Pow.{shl_exact}
-use lib.Seq.{drop-cons, set-get_or}
+use lib.Seq.{set-get_or}
 use Rattle.algebra.specs.Limits.{variables, largest_degree}
 use Rattle.algebra.specs.Pattern.{Pattern, empty_pattern, times, degree, exponent, lowered, without, then_by, order}
-use Rattle.algebra.specs.Word.{field_size, word_of, word, exponents, is_valid, Valid}
+use Rattle.algebra.specs.Word.{field_size, word, exponents, is_valid, Valid}
 use lib.Ieee.Fits.{and_i, and_l, and_r}
 use Rattle.algebra.proofs.Patterns.Laws.{times-length, degree-times, empty-degree, alone-length, without-times, without-degree}
 use Rattle.algebra.proofs.Patterns.Fields.{Below, below-degree, fields-below, fields-length, word_lt, word-most, fields-word, word-fields-lt, field_at, place-bits, word-zero, word-alone, word-times, word-degree, order-word, word-lowered}
@@ -123,18 +123,6 @@ bits_below v = 8 * (variables - 1 - v)
 
 place : (v : ℕ) → v < variables → field_size ^ (variables - suc v) ≡ 2 ^ bits_below v
 place v h = place-bits 8 (variables - suc v) ∙ ap (λ (k : ℕ). 2 ^ k) (omega arith)
-
--- a word byte by byte: the first of the bytes from v on, shifted by these bits, and the word of the others
-pub word_next : (p : Pattern) (v : ℕ) → length p ≡ variables → v < variables → word (drop v p) ≡ exponent v p * 2 ^ bits_below v + word (drop (suc v) p)
-unfolding word word_of
-word_next p v long h =
-    let inside : v < length p = omega arith in
-    let left : length (drop (suc v) p) ≡ variables - suc v = length-drop (suc v) p ∙ ap (λ (n : ℕ). n - suc v) long in
-    ap word (drop-cons p v 0 inside) ∙ ap (λ (k : ℕ). exponent v p * k + word (drop (suc v) p)) (ap (λ (n : ℕ). field_size ^ n) left ∙ place v h)
-
-pub word_none : word [] ≡ 0
-unfolding word word_of
-word_none = refl
 
 -- a shift of 1 by these bits loses nothing
 pub one_shifted : (v k : ℕ) → v < variables → k ≡ bits_below v → 1 * 2 ^ k % 2 ^ 64 ≡ 2 ^ bits_below v
