@@ -1,4 +1,4 @@
--- What is known of an answer that is not done, and of a result whose error was turned into another.
+-- What is known of a result whose error was turned into another.
 use Rattle.std.proofs.Common.{◌≡◌, refl, ap, ℕ, Result, Ok, Err, arith}
 use Rattle.std.specs.Result.{MatchResult, IsErrAnd}
 use Rattle.std.proofs.lemmas.Result.{err_from_is_err_and}

@@ -10,10 +10,14 @@ use Rattle.answers.specs.declared.Refusal.TheVariants.{Room, Shape, Node, Degree
 use Rattle.std.specs.Prelude.{Result, Ok, Err}
 use Rattle.answers.specs.declared.Refused.{Refused}
 use Rattle.answers.proofs.Outcomes.{same}
-use Rattle.answers.specs.Promised.{One}
+use Rattle.answers.specs.Promised.{One, OneLent}
 use Rattle.answers.proofs.Refusal.number.Reads as refusal-number
 use Rattle.answers.proofs.Refusal.at.Reads as refusal-at
 use Rattle.answers.proofs.for_host.Reads as for-host
+use Rattle.answers.proofs.areas.copy_words.Reads as copy-words
+use Rattle.answers.proofs.areas.copy_coefficients.Reads as copy-coefficients
+use Rattle.answers.proofs.areas.clear_words.Reads as clear-words
+use Rattle.answers.proofs.areas.clear_coefficients.Reads as clear-coefficients
 
 -- ---- Answers. Each is found again from what it tells.
 
@@ -73,3 +77,19 @@ at-one k a r r' e e' h h' = same h h'
 -- Refused when tried: the unit in the place's stead; the unit for every number that is returned.
 pub for-host-one : One for-host.Learnt
 for-host-one k a r r' e e' h h' = same h h'
+
+-- Refused when tried: from place 1 on; every other place.
+pub copy-words-one : OneLent copy-words.Learnt (λ k e. e.0.now)
+copy-words-one k a r r' e e' h h' = (refl, same h h')
+
+-- Refused when tried: from place 1 on; every other place.
+pub copy-coefficients-one : OneLent copy-coefficients.Learnt (λ k e. e.0.now)
+copy-coefficients-one k a r r' e e' h h' = (refl, same h h')
+
+-- Refused when tried: writes 1; from place 1 on.
+pub clear-words-one : OneLent clear-words.Learnt (λ k e. e.0.now)
+clear-words-one k a r r' e e' h h' = (refl, same h h')
+
+-- Refused when tried: writes 1; from place 1 on.
+pub clear-coefficients-one : OneLent clear-coefficients.Learnt (λ k e. e.0.now)
+clear-coefficients-one k a r r' e e' h h' = (refl, same h h')

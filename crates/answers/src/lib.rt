@@ -1,5 +1,5 @@
 // What an operation answers: done with a number, or refused with a place.
-// Begin with specs/Refusals.antt and specs/Answers.antt.
+// Begin with specs/Refusals.antt and specs/Answers.antt, then with `areas`: what is done to the first places of a lent area.
 #![tactic(auto)]
 
 ghost use Rattle.std.specs.Prelude.{◌≡◌, ◌≤◌, T};
@@ -7,6 +7,8 @@ ghost use Rattle.answers.specs.Refusals.{number};
 ghost use Rattle.answers.specs.Answers.{told};
 ghost use Rattle.answers.specs.Host.{host_number};
 ghost use Rattle.answers.specs.Inside.Fits.{fits_host, largest_unit};
+
+pub mod areas;
 
 // Why an operation refuses, with the number that a caller gets who knows no enum.
 #[derive(Clone, Copy, Debug, PartialEq, Eq)]

@@ -28,7 +28,7 @@ use lists::Entry;
 // As many pairs as there are variables.
 const MOST_PAIRS: usize = Pattern::VARIABLES as usize;
 
-// Writes the slope of the sum in the first n places of two arrays, which are the caller's own: it is formed there. It has no more terms than the sum.
+// Writes the slope of the sum in the first n places of two arrays, which are the caller's own: it is formed there.
 fn write_slope(v: u64, n: usize, sp: &mut [u64], sc: &mut [i64], res: &mut [u8]) -> Answer
     requires in_patterns { n ≤ length sp.old }
     requires in_coefficients { n ≤ length sc.old }
@@ -44,6 +44,10 @@ fn write_slope(v: u64, n: usize, sp: &mut [u64], sc: &mut [i64], res: &mut [u8])
         return Err(Refusal::Weight.at(0));
     }
     let count = slopes::form(v, n, sp, sc);
+    // It has no more terms than the sum, so this is never met.
+    if count > MOST_TERMS {
+        return Err(Refusal::Spread.at(0));
+    }
     Ok(writer::write_sum(res, 0, Terms::first(count, sp, sc)))
 }
 
@@ -68,7 +72,7 @@ pub fn slope(bytes: &[u8], v: u64, res: &mut [u8]) -> Answer
     if res.len() < packed::MOST_BYTES {
         return Err(Refusal::Room.at(0));
     }
-    let (number, next) = packed::read_count(bytes, 0).map_err(packed::refused)?;
+    let (number, next) = packed::read_count(bytes, 0).map_err(packed::sum_at_fault)?;
     let n = number as usize;
     if n <= FEW_TERMS {
         slope_by::<FEW_TERMS>(bytes, next, n, v, res)
@@ -92,7 +96,7 @@ fn substitute_list(
     ensures patterns_stay { drop work_places patterns.new ≡ drop work_places patterns.old }
     ensures coefficients_stay { drop work_places coefficients.new ≡ drop work_places coefficients.old }
 {
-    let (number, next) = packed::read_count(bytes, 0).map_err(packed::refused)?;
+    let (number, next) = packed::read_count(bytes, 0).map_err(packed::sum_at_fault)?;
     let n = number as usize;
     let mut fp = [0u64; MOST_TERMS];
     let mut fc = [0i64; MOST_TERMS];

@@ -3,10 +3,9 @@
 // What is written stays two slices, as C lends it: a struct of `&mut` slices would have to say in each contract where they point.
 #![tactic(auto)]
 
-ghost use Rattle.std.specs.Prelude.{◌≡◌, [], ◌≤◌, ◌/◌, pos, length, drop};
+ghost use Rattle.std.specs.Prelude.{◌≡◌, [], ◌≤◌, ◌/◌, length, drop};
 ghost use Rattle.algebra.specs.Limits.{variables, work_places};
 ghost use Rattle.answers.specs.Answers.{told, outcome};
-ghost use Rattle.answers.specs.Areas.{cleared};
 ghost use Rattle.packed.specs.Packed.{most_bytes};
 ghost use Rattle.packed.specs.Result.{packed_into};
 ghost use Rattle.formula.specs.Table.{judge_nodes, is_shape};
@@ -15,7 +14,7 @@ ghost use Rattle.formula.specs.Inside.Shape.{Shaped};
 ghost use Rattle.formula.specs.Inside.Last.{terms_told, KeepsLast};
 
 use algebra::{LARGEST_WEIGHT, MOST_NODES, MOST_TERMS, Pattern, Terms, WORK_PLACES};
-use answers::{Answer, Refusal};
+use answers::{Answer, Refusal, areas};
 use nodes::{Kind, Node, work};
 use packed::writer;
 
@@ -91,17 +90,6 @@ fn form_table(
     Ok(length)
 }
 
-// Clears the first places of both work areas.
-fn clear(patterns: &mut [u64], coefficients: &mut [i64], places: usize)
-    requires patterns_room { places ≤ length patterns.old }
-    requires coefficients_room { places ≤ length coefficients.old }
-    ensures patterns_cleared { patterns.new ≡ cleared 0 places patterns.old }
-    ensures coefficients_cleared { coefficients.new ≡ cleared (pos 0) places coefficients.old }
-{
-    patterns[..places].fill(0);
-    coefficients[..places].fill(0);
-}
-
 // A formula table becomes a packed sum.
 pub fn simplify(
     table: &[i64],
@@ -119,6 +107,7 @@ pub fn simplify(
         return Err(Refusal::Room.at(0));
     }
     let answer = form_table(table, patterns, coefficients, res);
-    clear(patterns, coefficients, WORK_PLACES);
+    areas::clear_words(patterns, WORK_PLACES);
+    areas::clear_coefficients(coefficients, WORK_PLACES);
     answer
 }

@@ -4,9 +4,10 @@
 #![tactic(auto)]
 
 ghost use Rattle.std.specs.Prelude.{◌≡◌, ◌≤◌, length};
-ghost use Rattle.algebra.specs.Limits.{variables, work_places};
+ghost use Rattle.algebra.specs.Limits.{variables, most_terms};
 ghost use Rattle.answers.specs.Answers.{told, outcome};
 ghost use Rattle.answers.specs.Areas.{written};
+ghost use Rattle.formula.specs.Simplify.{table_sum};
 ghost use Rattle.text.specs.Text.{text_sum};
 ghost use Rattle.listing.specs.Lines.{most_lines};
 ghost use Rattle.listing.specs.Inside.Forming.{Forms};
@@ -30,29 +31,49 @@ pub fn most_input() -> usize
     MOST_INPUT
 }
 
-// The terms of a typed formula's sum, to the first places of two areas. It answers how many they are.
-fn form(text: &[u8], patterns: &mut [u64], coefficients: &mut [i64]) -> Answer
-    requires patterns_room { work_places ≤ length patterns.old }
-    requires coefficients_room { work_places ≤ length coefficients.old }
-    ensures { Forms (text_sum text.now) result patterns.new coefficients.new }
+// The terms of a table's sum, to the first places of two areas. It answers how many they are.
+fn form(table: &[i64], patterns: &mut [u64], coefficients: &mut [i64]) -> Answer
+    requires patterns_room { most_terms ≤ length patterns.old }
+    requires coefficients_room { most_terms ≤ length coefficients.old }
+    ensures { Forms (table_sum table.now) result patterns.new coefficients.new }
 {
-    let mut table = [0i64; text::TABLE_PLACES];
-    let nodes = text::read_formula(text, &mut table)?;
+    let mut work_patterns = [0u64; WORK_PLACES];
+    let mut work_coefficients = [0i64; WORK_PLACES];
     let mut bytes = [0u8; packed::MOST_BYTES];
-    let length = formula::simplify(&table[..3 * nodes], patterns, coefficients, &mut bytes)?;
+    let length = formula::simplify(
+        table,
+        &mut work_patterns,
+        &mut work_coefficients,
+        &mut bytes,
+    )?;
     packed::unpack(&bytes[..length], patterns, coefficients)
 }
 
-// The lines of a typed formula. It answers how many bytes they are.
+// Both of these answer how many bytes they wrote.
+
+// The lines of a table's formula.
+fn list_table(table: &[i64], area: &mut [u8]) -> usize
+    requires { most_lines variables ≤ length area.old }
+    ensures value { result ≡ length (listed (table_sum table.now)) }
+    ensures area_after { area.new ≡ written (listed (table_sum table.now)) area.old }
+{
+    let mut patterns = [0u64; MOST_TERMS];
+    let mut coefficients = [0i64; MOST_TERMS];
+    match form(table, &mut patterns, &mut coefficients) {
+        Ok(count) => lines::write_sum(area, Terms::first(count, &patterns, &coefficients)),
+        Err(refused) => lines::write_refusal(area, refused),
+    }
+}
+
+// The lines of a typed formula. It is read before there are work areas: a text that is refused takes no time for them.
 fn list_text(text: &[u8], area: &mut [u8]) -> usize
     requires { most_lines variables ≤ length area.old }
     ensures value { result ≡ length (listed (text_sum text.now)) }
     ensures area_after { area.new ≡ written (listed (text_sum text.now)) area.old }
 {
-    let mut patterns = [0u64; WORK_PLACES];
-    let mut coefficients = [0i64; WORK_PLACES];
-    match form(text, &mut patterns, &mut coefficients) {
-        Ok(count) => lines::write_sum(area, Terms::first(count, &patterns, &coefficients)),
+    let mut table = [0i64; text::TABLE_PLACES];
+    match text::read_formula(text, &mut table) {
+        Ok(nodes) => list_table(&table[..3 * nodes], area),
         Err(refused) => lines::write_refusal(area, refused),
     }
 }

@@ -1,5 +1,5 @@
 -- The formal degree and the formal weight, kind by kind, as the code computes them.
-use mathlib.Core.Path.{◌≡◌, sym, subst}
+use mathlib.Core.Path.{◌≡◌, sym, ap, subst}
 use mathlib.Core.Bool.{◌&&◌}
 use mathlib.Core.List.{List}
 use Prim.Native.Nat.{ℕ, ◌≤◌, ◌<◌}
@@ -10,6 +10,7 @@ use native.Mathlib.Omega.{arith}
 use Rattle.algebra.specs.Limits.{largest_degree}
 use lib.Ieee.Fits.{and_l, and_r}
 use Rattle.nodes.specs.Node.{is_node}
+use Rattle.nodes.specs.Formal.{formal_degree}
 use Rattle.nodes.specs.Inside.Children.{EachAtMost}
 use Rattle.nodes.specs.Inside.Code.{kind_of, formal_degrees, formal_weights}
 use Rattle.nodes.specs.declared.Kind.{Kind}
@@ -32,6 +33,10 @@ module _ (n : ℕ) {k : Kind} (node : T (is_node n (kind_of k))) where
 
   pub power-child : {a e : ℕ} → k ≡ Power a e → (a < n) × (e ≤ largest_degree)
   power-child {a} {e} p = base-child n a e (at-kind p)
+
+-- a node's degree is that of the kind that was matched
+pub degree-at : (ds : List ℕ) {k other : Kind} → k ≡ other → formal_degree ds (kind_of other) ≡ formal_degree ds (kind_of k)
+degree-at ds e = ap (λ x. formal_degree ds (kind_of x)) (sym e)
 
 -- ---- What the code reads of the nodes before.
 

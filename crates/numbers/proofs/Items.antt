@@ -7,7 +7,7 @@ use lib.Dec.{T}
 use Rattle.numbers.specs.Item.{Item, Item.got, Item.stopped, and_then, provided, mapped, renamed, Fault, Fault.cut, Fault.bad}
 use Rattle.std.specs.Prelude.{Result, Ok, Err, Some}
 use Rattle.std.specs.Result.{result_ok}
-use Rattle.numbers.specs.Inside.Read.{item_of, read_from}
+use Rattle.numbers.specs.Inside.Read.{Reading, item_of, read_from}
 use Rattle.numbers.specs.declared.Fault as declared
 use Rattle.numbers.specs.declared.Fault.TheVariants.{Cut, Bad}
 
@@ -218,6 +218,19 @@ fault-met f h (stopped what place) e = rw e both
 
 pub number-fault : (f : declared.Fault) (y : Item Fault ℕ) → item_of (Err f) ≡ y → Alike (item_of (Err f)) y
 number-fault f y e = fault-met f (λ n. n) y (e ∙ sym (mapped-id y))
+
+-- an answer that is no value, without saying which fault it is
+abbrev pub NoValue : Reading → Type 0
+NoValue r = (v next : ℕ) → r ≡ Ok (v, next) → ⊥
+
+-- has met the fault of what it answers
+pub stop-met : {A : Type 0} (r : Reading) → NoValue r → (h : A → ℕ) (y : Item Fault A) → item_of r ≡ mapped h y → Alike (item_of r) y
+stop-met (Ok (v, next)) k h y e = absurd (k v next refl)
+stop-met (Err f) k h y e = fault-met f h y e
+
+-- and one that is a value has it from there
+pub answered : {A : Type 0} {v next : ℕ} (r : Reading) → r ≡ Ok (v, next) → (h : A → ℕ) (y : Item Fault A) → item_of r ≡ mapped h y → From h y v next
+answered r is h y e = came_from h y _ _ (sym e ∙ ap item_of is)
 
 -- what was read, where the answer is shown without its fault
 pub ok-read : {v next : ℕ} {y : Item Fault ℕ} (r : Result ℕ declared.Fault) → Some v ≡ result_ok r → read_from r next ≡ y → y ≡ got v next

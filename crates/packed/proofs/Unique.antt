@@ -5,12 +5,13 @@ use Prim.Native.Nat.{ℕ}
 use lib.IntN.{ℤ}
 use Rattle.answers.proofs.Outcomes.{same}
 use Rattle.answers.specs.Promised.{One, OneLent}
-use Rattle.answers.proofs.Unique.{refusal-one, outcome-one}
+use Rattle.answers.proofs.Unique.{told-one, refusal-one, outcome-one}
 use Rattle.numbers.proofs.Unique.{item-one}
 use Rattle.packed.proofs.read_count.Reads as read_count
 use Rattle.packed.proofs.read_sum.Reads as read-sum
 use Rattle.packed.proofs.reader.read_item.Reads as read-item
 use Rattle.packed.proofs.refused.Reads as refused
+use Rattle.packed.proofs.sum_at_fault.Reads as at-fault
 use Rattle.packed.proofs.take_whole.Reads as take_whole
 use Rattle.packed.proofs.unpack.Reads as unpack
 use Rattle.packed.proofs.pack.Reads as pack
@@ -34,7 +35,10 @@ read-count-one k a r r' e e' h h' = item-one r r' (same h.0 h'.0)
 
 -- Refused when tried: ROOM in SUM's stead where the bytes end too soon; VARIABLE in SUM's stead elsewhere.
 pub refused-one : One refused.Learnt
-refused-one k a r r' e e' h h' = refusal-one r r' (same h h')
+refused-one k a r r' e e' h h' = told-one r r' (same h h')
+
+pub sum-at-fault-one : One at-fault.Learnt
+sum-at-fault-one k a r r' e e' h h' = refusal-one r r' (same h h')
 
 -- Refused when tried: good terms are taken whatever follows them; the words are not cleared where bytes are left over.
 pub take-whole-one : OneLent take_whole.Learnt {L = List ℕ × List ℤ} (λ k e. (e.1.1.1.0.now, e.1.1.1.1.0.now))

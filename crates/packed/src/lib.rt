@@ -17,7 +17,7 @@ ghost use Rattle.packed.specs.Unpack.{unpack};
 ghost use Rattle.packed.specs.Pack.{pack};
 
 use algebra::{MOST_TERMS, Pattern, Terms};
-use answers::{Answer, Refusal, Refused};
+use answers::{Answer, Refusal, Refused, areas};
 use numbers::{Fault, Read};
 use reader::Reader;
 
@@ -66,8 +66,18 @@ pub fn read_sum(bytes: &[u8], at: usize, patterns: &mut [u64], coefficients: &mu
     Ok(item)
 }
 
-// A packed sum that was cut or is damaged is refused with SUM at its place. (It is no `From`: both types are other crates'.)
-pub fn refused(met: Fault) -> Refused
+// A packed sum that was cut or is damaged is refused with SUM at its place. (A value is none of the two, and is not passed here.)
+pub fn refused(item: Read) -> Answer
+    ensures { told result ≡ fault SUM (item_of item) }
+{
+    match item {
+        Ok((_, next)) => Err(Refusal::Sum.at(next)),
+        Err(met) => Err(sum_at_fault(met)),
+    }
+}
+
+// The same of a fault alone, for `map_err`. (It is no `From`: both types are other crates'.)
+pub fn sum_at_fault(met: Fault) -> Refused
     ensures { told (Err result) ≡ fault SUM (item_of (Err met)) }
 {
     match met {
@@ -94,7 +104,9 @@ pub fn take_whole(
             return Ok(count);
         }
     }
-    let (_, end) = items::take_each(bytes, at, count, patterns, coefficients).map_err(refused)?;
+    let (_, end) = items::take_each(bytes, at, count, patterns, coefficients).map_err(
+        sum_at_fault,
+    )?;
     if end < bytes.len() {
         patterns[..count].fill(0);
         coefficients[..count].fill(0);
@@ -123,8 +135,8 @@ fn unpack_by<const N: usize>(
     let mut own_patterns = [0u64; N];
     let mut own_coefficients = [0i64; N];
     let n = take_whole(bytes, at, count, &mut own_patterns, &mut own_coefficients)?;
-    patterns[..count].copy_from_slice(&own_patterns[..count]);
-    coefficients[..count].copy_from_slice(&own_coefficients[..count]);
+    areas::copy_words(patterns, &own_patterns, count);
+    areas::copy_coefficients(coefficients, &own_coefficients, count);
     Ok(n)
 }
 
@@ -139,7 +151,7 @@ pub fn unpack(bytes: &[u8], patterns: &mut [u64], coefficients: &mut [i64]) -> A
     if coefficients.len() < MOST_TERMS {
         return Err(Refusal::Room.at(0));
     }
-    let (number, next) = read_count(bytes, 0).map_err(refused)?;
+    let (number, next) = read_count(bytes, 0).map_err(sum_at_fault)?;
     let n = number as usize;
     if n <= FEW_TERMS {
         unpack_by::<FEW_TERMS>(bytes, next, n, patterns, coefficients)
@@ -164,11 +176,10 @@ pub fn pack(count: usize, patterns: &[u64], coefficients: &[i64], res: &mut [u8]
     if count > coefficients.len() {
         return Err(Refusal::Shape.at(0));
     }
-    let terms = Terms::first(count, patterns, coefficients);
-    let good = fast::good_terms(terms);
+    let good = fast::good_terms(Terms::first(count, patterns, coefficients));
     if good < count {
         return Err(Refusal::Sum.at(good));
     }
-    let length = writer::write_sum(res, 0, terms);
+    let length = writer::write_sum(res, 0, Terms::first(count, patterns, coefficients));
     Ok(length)
 }

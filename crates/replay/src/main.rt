@@ -2,7 +2,8 @@
 // Begin with docs/REPLAY.md, which has the lines, then with `main` and `operations`.
 #![tactic(auto)]
 
-ghost use Rattle.std.specs.Prelude.{◌≤◌, length};
+ghost use Rattle.std.specs.Prelude.{◌≤◌, ◌+◌, length};
+ghost use Rattle.replay.specs.Limits.{most_answer};
 
 use std::io;
 use std::io::Read;
@@ -27,11 +28,14 @@ const MOST_BYTES: usize = 40000;
 
 const MOST_WORDS: usize = 9000;
 
-// A field of bytes: two digits for each.
+// The fields of bytes of a line: two digits for each byte.
 const MOST_GIVEN: usize = LONGEST_LINE / 2;
 
 // An answer with two areas of words written in full, and what stands beside them.
 const MOST_ANSWER: usize = 2 * 16 * MOST_WORDS + 128;
+
+// Answers are gathered, and written once they are longer than this.
+const ENOUGH: usize = 65536;
 
 // So much of the input is read at once.
 const PIECE: usize = 65536;
@@ -60,23 +64,61 @@ impl Line {
     }
 }
 
-// Answers the line, and begins another.
-fn end_line(rt: &impl Print, line: &mut Line, out: &mut [u8; MOST_ANSWER]) -> io::Result<()> {
-    let end = operations::answer(&line.bytes[..line.held], out);
-    line.held = 0;
-    rt.write_all(&out[..end])
+// Writes the answer to a line behind what an area holds, and answers how much it holds then.
+fn gather(line: &[u8], area: &mut [u8], held: usize) -> usize
+    requires { held + most_answer ≤ length area.old }
+    ensures { result ≤ held + most_answer }
+{
+    let out = area[held..].first_chunk_mut().unwrap();
+    held + operations::answer(line, out)
 }
 
-// A piece of the input, byte by byte.
+// The answers that are not written yet, with room for one more.
+#[derive(Drop)]
+struct Answers {
+    bytes: [u8; ENOUGH + MOST_ANSWER],
+    held: usize,
+    ghost room: { held + most_answer ≤ length bytes },
+}
+
+impl Answers {
+    fn new() -> Answers {
+        Answers {
+            bytes: areas::zeroed(),
+            held: 0,
+        }
+    }
+
+    // Writes all that is gathered. (A write that fails ends the program.)
+    fn write(&mut self, rt: &impl Print) -> io::Result<()> {
+        let end = self.held;
+        self.held = 0;
+        rt.write_all(&self.bytes[..end])
+    }
+
+    // Gathers the answer to the line, which then begins anew.
+    fn add(&mut self, rt: &impl Print, line: &mut Line) -> io::Result<()> {
+        let end = gather(&line.bytes[..line.held], &mut self.bytes, self.held);
+        line.held = 0;
+        if end > ENOUGH {
+            self.held = 0;
+            return rt.write_all(&self.bytes[..end]);
+        }
+        self.held = end;
+        Ok(())
+    }
+}
+
+// A piece of the input, byte by byte: at the end of each line its answer is gathered.
 fn take_piece(
     rt: &impl Print,
     piece: &[u8],
     line: &mut Line,
-    out: &mut [u8; MOST_ANSWER],
+    answers: &mut Answers,
 ) -> io::Result<()> {
     for b in piece {
         if *b == b'\n' {
-            end_line(rt, line, out)?;
+            answers.add(rt, line)?;
         } else {
             line.add(*b);
         }
@@ -88,18 +130,18 @@ fn take_piece(
 fn replay(rt: &impl Print, input: &mut impl Read) -> io::Result<()> {
     let mut piece = [0u8; PIECE];
     let mut line = Line::new();
-    let mut out = areas::zeroed::<u8, MOST_ANSWER>();
+    let mut answers = Answers::new();
     for _ in 0..u64::MAX {
         let length = input.read(&mut piece)?;
         if length == 0 {
             break;
         }
-        take_piece(rt, &piece[..length], &mut line, &mut out)?;
+        take_piece(rt, &piece[..length], &mut line, &mut answers)?;
     }
     if line.held > 0 {
-        end_line(rt, &mut line, &mut out)?;
+        answers.add(rt, &mut line)?;
     }
-    Ok(())
+    answers.write(rt)
 }
 
 fn main(rt: HostRuntime) -> io::Result<()> {

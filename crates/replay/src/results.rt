@@ -48,21 +48,16 @@ pub(crate) fn estimate(mut fields: Fields, out: &mut [u8; MOST_ANSWER]) -> Optio
     ensures { IfSome result (λ end. end ≤ most_answer) }
 {
     let mut given = areas::zeroed::<u8, MOST_GIVEN>();
-    let mut readings = areas::zeroed::<u8, MOST_GIVEN>();
-    let mut tolerances = areas::zeroed::<u8, MOST_GIVEN>();
     let mut area = areas::zeroed::<u8, MOST_BYTES>();
+    // All fields of bytes go into one area, since a line has no more bytes than that.
     let packed = fields.values(&mut given)?;
-    let r = fields.values(&mut readings)?;
-    let t = fields.values(&mut tolerances)?;
+    let (sum, rest) = given.split_at_mut(packed);
+    let r = fields.values(rest)?;
+    let (readings, rest) = rest.split_at_mut(r);
+    let t = fields.values(rest)?;
     let length = fields.number(MOST_BYTES)?;
     fields.end()?;
-    Some(run_estimate(
-        &given[..packed],
-        &readings[..r],
-        &tolerances[..t],
-        &mut area[..length],
-        out,
-    ))
+    Some(run_estimate(sum, readings, &rest[..t], &mut area[..length], out))
 }
 
 fn run_write(packed: &[u8], res: &mut [u8], out: &mut [u8; MOST_ANSWER]) -> usize

@@ -90,7 +90,7 @@ pub fn estimate(sum: &[u8], readings: &[u8], tolerances: &[u8], answer: &mut [u8
     if answer.len() < ANSWER_BYTES {
         return Err(Refusal::Room.at(0));
     }
-    let (number, next) = packed::read_count(sum, 0).map_err(packed::refused)?;
+    let (number, next) = packed::read_count(sum, 0).map_err(packed::sum_at_fault)?;
     let n = number as usize;
     if n <= FEW_TERMS {
         estimate_by::<FEW_TERMS>(sum, next, n, readings, tolerances, answer)

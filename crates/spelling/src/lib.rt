@@ -41,7 +41,7 @@ pub fn write_text(bytes: &[u8], area: &mut [u8]) -> Answer
     if area.len() < TEXT_PLACES {
         return Err(Refusal::Room.at(0));
     }
-    let (number, next) = packed::read_count(bytes, 0).map_err(packed::refused)?;
+    let (number, next) = packed::read_count(bytes, 0).map_err(packed::sum_at_fault)?;
     let n = number as usize;
     if n <= FEW_TERMS {
         write_by::<FEW_TERMS>(bytes, next, n, area)

@@ -17,6 +17,7 @@ ghost use Rattle.sums.specs.Formed.{formed_of, Formed.formed, sum_of, product_of
 ghost use Rattle.sums.specs.Rows.{HasTerm, RoomFor};
 
 use algebra::{MOST_TERMS, Pattern, Terms};
+use answers::areas;
 
 mod adding;
 mod binomial;
@@ -268,8 +269,9 @@ fn repeated(s: Terms, e: u64, patterns: &mut [u64], coefficients: &mut [i64]) ->
     let mut next_patterns = [0u64; MOST_TERMS];
     let mut next_coefficients = [0i64; MOST_TERMS];
     let mut n = s.patterns.len();
-    own_patterns[..n].copy_from_slice(s.patterns);
-    own_coefficients[..n].copy_from_slice(s.coefficients);
+    // By name: what is compiled in here of std's own copying would call memmove, which a host of this library need not have for anything else.
+    areas::copy_words(&mut own_patterns, s.patterns, n);
+    areas::copy_coefficients(&mut own_coefficients, s.coefficients, n);
     for _ in 1..e {
         n = multiply_in(
             s,

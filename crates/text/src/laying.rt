@@ -57,10 +57,11 @@ impl Layout {
         ensures one_more { self.new.nodes ≡ self.old.nodes + 1 }
     {
         let n = self.nodes;
-        self.nodes = n + 1;
         if n < MOST_NODES {
             self.rows[n] = numbers_of(node);
         }
+        // Last, so that what comes next has the number from here, and not back from memory.
+        self.nodes = n + 1;
     }
 
     // A term was read, and its own node is the last. If its sign is a minus, integer -1 is put, and the product of both.

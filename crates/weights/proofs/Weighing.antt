@@ -1,6 +1,6 @@
 -- Weights above 2^62 are found without overflow: they are only told apart from those that are allowed.
 use mathlib.Core.Path.{◌≡◌, refl, sym, ◌∙◌, ap}
-use Prim.Native.Nat.{ℕ, zero, suc, ◌+◌, ◌*◌, ◌^◌, ◌≤◌, ◌<◌}
+use Prim.Native.Nat.{ℕ, zero, suc, ◌+◌, ◌*◌, ◌^◌, ◌≤◌, ◌<◌, min}
 use native.Mathlib.Omega.{arith}
 use native.Mathlib.Decide.{dec_lt, ℕ_discrete}
 use native.Mathlib.Nat.{min-eq_left, min-eq_right, mul-le-mul_left, mul_comm, mul-zero, pow-zero, pow-suc, one-mul}
@@ -20,6 +20,10 @@ capped-light v w e h = omega (arith, e)
 
 pub capped-heavy : (v w : ℕ) → v ≡ capped w → largest_weight < v → largest_weight < w
 capped-heavy v w e h = omega (arith, e)
+
+-- a sum or a product that stops at a number above 2^62, where it is larger, is told in the same way: so one that does not fit in a word need not be formed
+pub capped-stopped : (n : ℕ) {most stopped : ℕ} → largest_weight < most → stopped ≡ min n most → capped stopped ≡ capped n
+capped-stopped n h is = omega (arith, is)
 
 -- ---- Capped before an operation, or after it.
 

@@ -3,13 +3,20 @@
 // Begin with specs/Capped.antt, then with `sum`, `product` and `power`.
 #![tactic(auto)]
 
-ghost use Rattle.std.specs.Prelude.{◌≡◌, ◌+◌, ◌*◌, ◌^◌, ◌<◌};
+ghost use Rattle.std.specs.Prelude.{◌≡◌, ◌+◌, ◌*◌, ◌^◌, ◌<◌, max};
 ghost use Rattle.weights.specs.Capped.{capped};
 
 use algebra::LARGEST_WEIGHT;
 
 // A number above every weight that is allowed.
 const TOO_HEAVY: u64 = LARGEST_WEIGHT + 1;
+
+// The larger of two degrees, or of two powers.
+pub fn larger(m: u64, n: u64) -> u64
+    ensures { result ≡ max m n }
+{
+    m.max(n)
+}
 
 // Any number as a weight.
 pub fn cap(w: u64) -> u64

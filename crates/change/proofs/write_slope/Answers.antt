@@ -1,12 +1,13 @@
 -- `write_slope` meets its contract: the checks come in 01's order, and the result area is written after the last of them.
 use mathlib.Core.Path.{◌≡◌, sym, ◌∙◌}
+use native.Mathlib.Omega.{arith}
 use Rattle.algebra.specs.Sum.{weight}
 use Rattle.algebra.specs.Slope as algebra
 use Rattle.algebra.specs.Held.{first_terms}
 use Rattle.weights.specs.Capped.{capped}
 use Rattle.weights.proofs.Weighing.{capped-heavy}
 use Rattle.change.proofs.Sloped.{judge-variable, judge-weight, judged-so, judged-good}
-use Rattle.sums.proofs.First.{First, first-valid}
+use Rattle.sums.proofs.First.{First, first_few, first-valid}
 use Rattle.change.proofs.Given.{first-room, first-result, slope-light, slope-stands}
 use Rattle.change.proofs.write_slope.Goals as goal
 use Rattle.change.proofs.write_slope.Goals.{After-form-count, After-weigh, Start}
@@ -29,6 +30,11 @@ pub returns-then-weigh-gt-LARGEST_WEIGHT : goal.returns-then-weigh-gt-LARGEST_WE
 returns-then-weigh-gt-LARGEST_WEIGHT c =
     rw c.at-then-weigh-gt-LARGEST_WEIGHT.ensures
     (sym (judged-so _ _ _ (judge-weight _ _ c.if-v-ge-VARIABLES.false (capped-heavy _ _ (weighed (goal.at.returns-then-weigh-gt-LARGEST_WEIGHT c).After-weigh) c.if-weigh-gt-LARGEST_WEIGHT.true))))
+
+pub returns-then-count-gt-MOST_TERMS : goal.returns-then-count-gt-MOST_TERMS
+returns-then-count-gt-MOST_TERMS c =
+    let f = formed (goal.at.returns-then-count-gt-MOST_TERMS c).After-form-count (weighed (goal.at.returns-then-count-gt-MOST_TERMS c).After-weigh) in
+    absurd (omega (arith, first_few f, c.if-count-gt-MOST_TERMS.true))
 
 pub write_sum-requires-clause-each_valid : goal.write_sum-requires-clause-each_valid
 write_sum-requires-clause-each_valid c =

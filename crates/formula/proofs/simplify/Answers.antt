@@ -12,5 +12,5 @@ returns-then-patterns-lt-WORK_PLACES c =
 
 pub returns : goal.returns
 returns c = all-cleared _ _ _ _ c.form_table-answer.new.patterns c.form_table-answer.new.coefficients _ (record { patterns_room = c.if-patterns-lt-WORK_PLACES.false; coefficients_room = c.if-coefficients-lt-WORK_PLACES.false; result_room = c.if-res-lt-MOST_BYTES.false })
-    c.form_table-answer.ensures.res_after c.form_table-answer.ensures.patterns_unchanged c.form_table-answer.ensures.coefficients_unchanged c.clear.ensures.patterns_cleared c.clear.ensures.coefficients_cleared
+    c.form_table-answer.ensures.res_after c.form_table-answer.ensures.patterns_unchanged c.form_table-answer.ensures.coefficients_unchanged c.clear_words.ensures c.clear_coefficients.ensures
     ∙ sym (simplify-worked _ _ _ _)

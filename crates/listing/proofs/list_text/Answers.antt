@@ -1,20 +1,35 @@
--- `list_text` meets its contract: the terms that were formed are listed, or the refusal.
-use mathlib.Core.Path.{sym, ◌∙◌, ap, ap₂}
-use Prim.Native.Nat.{◌^◌, ◌<◌}
+-- `list_text` meets its contract: the table that was read is listed, or the refusal.
+use mathlib.Core.Path.{sym, ap}
+use Prim.Native.Nat.{◌^◌, ◌<◌, ◌≤◌}
 use native.Mathlib.Omega.{arith}
 use borrow.Author.Rules.{rules}
-use Rattle.algebra.specs.Limits.{variables}
-use Rattle.algebra.specs.Word.{terms}
+use lib.IntN.{pos}
+use lib.ListN.{length, replicate}
+use lib.Seq.{length-take-le}
 use Rattle.answers.specs.Refusals.{number}
-use Rattle.listing.specs.Lines.{sum_lines}
-use Rattle.listing.proofs.Widths.{sum-width, refusal-width}
-use Rattle.listing.proofs.Answered.{listed-sum, listed-refusal, listed-as}
+use Rattle.text.specs.Limits.{table_places}
+use Rattle.listing.specs.Listing.{listed}
+use Rattle.listing.proofs.Widths.{refusal-width}
+use Rattle.listing.proofs.Answered.{Typed, typed, not-typed, listed-refusal, listed-as}
 use Rattle.listing.proofs.list_text.Goals as goal
+use Rattle.listing.proofs.list_text.Goals.{In-Ok}
 
-pub write_sum-requires-clause-sum_in_bounds : goal.write_sum-requires-clause-sum_in_bounds
-write_sum-requires-clause-sum_in_bounds c =
-    let t = c.in-Ok.ensures in
-    rw (c.first.ensures.patterns, c.first.ensures.coefficients, t.terms_are) (omega (arith, sum-width variables t.sum t.accepted, c.requires))
+-- its own table is long enough
+room : table_places ≤ length (replicate table_places (pos 0))
+room = search rules
+
+-- what was read
+formed : (d : In-Ok) → Typed d.args.text.now d.in-Ok.nodes d.read_formula.new.table
+formed d = typed _ _ room d.in-Ok.ensures
+
+pub overflow_mul-table : goal.overflow_mul-table
+overflow_mul-table c = let h = (formed c).short in search rules
+
+pub slice_bounds-table-end : goal.slice_bounds-table-end
+slice_bounds-table-end c = (formed c).short
+
+pub slice_bounds-list_table-end : goal.slice_bounds-list_table-end
+slice_bounds-list_table-end c = sym (length-take-le _ _ (formed (goal.at.slice_bounds-list_table-end c).In-Ok).short)
 
 pub write_refusal-requires : goal.write_refusal-requires
 write_refusal-requires c =
@@ -24,12 +39,11 @@ write_refusal-requires c =
 
 pub returns-in-Ok : goal.returns-in-Ok
 returns-in-Ok c =
-    let t = c.in-Ok.ensures in
-    let is = listed-sum t.is ∙ ap sum_lines (sym (ap₂ terms c.first.ensures.patterns c.first.ensures.coefficients ∙ t.terms_are)) in
-    let all = listed-as _ is (c.write_sum.ensures.value, c.write_sum.ensures.area_after) in
+    let d = (goal.at.returns-in-Ok c).In-Ok in
+    let all = listed-as _ (ap listed (formed d).is) (c.list_table.ensures.value, c.list_table.ensures.area_after) in
     record { value = all.0; area_after = all.1 }
 
 pub returns-in-Err : goal.returns-in-Err
 returns-in-Err c =
-    let all = listed-as _ (listed-refusal c.in-Err.ensures) (c.write_refusal.ensures.value, c.write_refusal.ensures.area_after) in
+    let all = listed-as _ (listed-refusal (not-typed _ _ room c.in-Err.ensures)) (c.write_refusal.ensures.value, c.write_refusal.ensures.area_after) in
     record { value = all.0; area_after = all.1 }

@@ -31,19 +31,19 @@ pub returns-then-count-coefficients : goal.returns-then-count-coefficients
 returns-then-count-coefficients c = rw c.at-then-count-coefficients.ensures (few_coefficients _ _ _ _ c.if-res-lt-MOST_BYTES.false c.if-count-gt-MOST_TERMS.false c.if-count-patterns.false c.if-count-coefficients.true)
 
 pub returns-then-good-count : goal.returns-then-good-count
-returns-then-good-count c = let is = judged _ _ _ c.good_terms-good.ensures c.first-terms.ensures.patterns c.first-terms.ensures.coefficients in
+returns-then-good-count c = let is = judged _ _ _ c.good_terms-good.ensures c.first.ensures.patterns c.first.ensures.coefficients in
     rw c.at-then-good-count.ensures (ap (λ (g : ℕ). outcome (refused SUM g) c.args.res.now) is ∙ bad_term (passed (goal.at.returns-then-good-count c).Else-count-coefficients) (omega (arith, is, c.if-good-count.true)))
 
 pub write_sum-length-requires-clause-each_valid : goal.write_sum-length-requires-clause-each_valid
 write_sum-length-requires-clause-each_valid c = let p = passed (goal.at.write_sum-length-requires-clause-each_valid c).Else-count-coefficients in
-    let every = every-good p (omega (arith, judged _ _ _ c.good_terms-good.ensures c.first-terms.ensures.patterns c.first-terms.ensures.coefficients, c.if-good-count.false)) in rw c.first-terms.ensures.patterns (every-valid p every)
+    let every = every-good p (omega (arith, judged _ _ _ c.good_terms-good.ensures c.first.ensures.patterns c.first.ensures.coefficients, c.if-good-count.false)) in rw c.first-2.ensures.patterns (every-valid p every)
 
 pub write_sum-length-requires-clause-room : goal.write_sum-length-requires-clause-room
 write_sum-length-requires-clause-room c = let p = passed (goal.at.write_sum-length-requires-clause-room c).Else-count-coefficients in
-    let every = every-good p (omega (arith, judged _ _ _ c.good_terms-good.ensures c.first-terms.ensures.patterns c.first-terms.ensures.coefficients, c.if-good-count.false)) in rw (c.first-terms.ensures.patterns, c.first-terms.ensures.coefficients) (has_room p every)
+    let every = every-good p (omega (arith, judged _ _ _ c.good_terms-good.ensures c.first.ensures.patterns c.first.ensures.coefficients, c.if-good-count.false)) in rw (c.first-2.ensures.patterns, c.first-2.ensures.coefficients) (has_room p every)
 
 pub returns : goal.returns
 returns c = let p = passed (goal.at.returns c).Else-count-coefficients in
-    let sum = c.first-terms.ensures in
-    let every = every-good p (omega (arith, judged _ _ _ c.good_terms-good.ensures c.first-terms.ensures.patterns c.first-terms.ensures.coefficients, c.if-good-count.false)) in
+    let sum = c.first-2.ensures in
+    let every = every-good p (omega (arith, judged _ _ _ c.good_terms-good.ensures c.first.ensures.patterns c.first.ensures.coefficients, c.if-good-count.false)) in
     all-written p every (rw (sum.patterns, sum.coefficients) at c.write_sum-length.ensures.value) (rw (sum.patterns, sum.coefficients) at c.write_sum-length.ensures.area_after)

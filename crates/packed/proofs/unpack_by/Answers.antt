@@ -1,8 +1,5 @@
 -- `unpack_by` meets its contract: the areas are written after the last test.
-use borrow.Author.Rules.{rules}
-use lib.ListN.{take}
 use Rattle.std.proofs.lemmas.Result.{err_from_is_err_and}
-use Rattle.answers.proofs.Writes.{part-written}
 use Rattle.packed.proofs.Unpacking.{areas-stay, areas-hold}
 use Rattle.packed.proofs.unpack_by.Goals as goal
 
@@ -12,7 +9,4 @@ returns-in_err-n g c =
     rw (p.1, p.2) (areas-stay _ _ _ _ _ _ _ c.in_err-n.ensures)
 
 pub returns : goal.returns
-returns g c =
-    areas-hold _ _ _ _ _ _ _ c.in_ok-n.ensures
-    (part-written (take c.args.count c.take_whole.new.patterns) _ c.args.count c.copy_from_slice.ensures.after (search rules))
-    (part-written (take c.args.count c.take_whole.new.coefficients) _ c.args.count c.copy_from_slice-2.ensures.after (search rules))
+returns g c = areas-hold _ _ _ _ _ _ _ c.in_ok-n.ensures c.copy_words.ensures c.copy_coefficients.ensures

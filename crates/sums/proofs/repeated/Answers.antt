@@ -1,16 +1,23 @@
 use mathlib.Core.Path.{refl, sym, ◌∙◌, ap}
-use mathlib.Core.List.{◌++◌}
+use native.Mathlib.Omega.{arith}
 use borrow.Author.Rules.{rules}
 use lib.IntN.{pos}
-use lib.ListN.{length, drop, replicate}
+use lib.ListN.{length, replicate}
+use lib.Seq.{take_all}
+use Rattle.answers.specs.Areas.{written}
 use Rattle.algebra.specs.Limits.{most_terms}
+use Rattle.sums.proofs.Holding.{as_many}
 use Rattle.sums.proofs.Fronts.{front-copied, front-held}
 use Rattle.sums.proofs.Raising.{start, product-low, product-light, stops, again, ended}
 use Rattle.sums.proofs.repeated.Goals as goal
 
 pub loop-init : goal.loop-init
-loop-init c = let copied = front-copied c.requires.base.held (replicate most_terms 0) (replicate most_terms (pos 0)) (ap (λ l. l ++ drop (length c.args.s.patterns.now) (replicate most_terms 0)) c.copy_from_slice.ensures.after) (search rules) refl refl in
-    (record { running_words = refl; running_coefficients = refl; first_ranks = refl; second_ranks = refl }, start _ _ c.requires.base.held c.requires.base.low c.requires.base.light c.requires.e_nonzero copied refl refl)
+loop-init c =
+    let base = c.requires.base.held in
+    let words = c.copy_words.ensures ∙ ap (λ l. written l (replicate most_terms 0)) (take_all (length c.args.s.patterns.now) c.args.s.patterns.now (omega arith)) in
+    let coefficients = c.copy_coefficients.ensures ∙ ap (λ l. written l (replicate most_terms (pos 0))) (take_all (length c.args.s.patterns.now) c.args.s.coefficients.now (omega (arith, as_many base))) in
+    let copied = front-copied base (replicate most_terms 0) (replicate most_terms (pos 0)) words coefficients refl refl in
+    (record { running_words = refl; running_coefficients = refl; first_ranks = refl; second_ranks = refl }, start _ _ base c.requires.base.low c.requires.base.light c.requires.e_nonzero copied refl refl)
 
 pub multiply_in-requires-clause-factors : goal.multiply_in-requires-clause-factors
 multiply_in-requires-clause-factors c = rw (c.first.ensures.patterns, c.first.ensures.coefficients)
