@@ -81,6 +81,14 @@ pub fn slope(bytes: &[u8], v: u64, res: &mut [u8]) -> Answer
     }
 }
 
+// The pairs that were read: so many of the entries. In a function of its own it is proved without an answer, so an edit of it is refused for what it means alone.
+fn first_pairs(entries: &[Entry], pairs: usize) -> &[Entry]
+    requires { pairs ≤ length entries.now }
+    ensures { result.now ≡ take pairs entries.entry.now }
+{
+    &entries[..pairs]
+}
+
 // Writes the packed sum that the list makes of a packed sum. Of the work areas only this is said: their further places stay. The caller clears the rest.
 fn substitute_list(
     bytes: &[u8],
@@ -104,7 +112,7 @@ fn substitute_list(
     let mut entries = [Entry::default(); MOST_PAIRS];
     let (pairs, _) = lists::read_list(list, &mut entries, patterns, coefficients)?;
     let count = applying::apply_pairs(
-        &entries[..pairs],
+        first_pairs(&entries, pairs),
         patterns,
         coefficients,
         &mut fp,

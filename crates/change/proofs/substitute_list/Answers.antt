@@ -33,7 +33,7 @@ result : (d : In_ok-count)
     → (l : Kept-list d.args.list.now d.read_list.new.entries d.read_list.new.patterns d.read_list.new.coefficients d.in_ok-pairs.pairs)
     → Made _ _ d.args.res.now g l d.apply_pairs.new.fp d.apply_pairs.new.fc d.in_ok-count.count
 result d g l =
-    made _ _ _ g l d.in_ok-count.ensures
+    made _ _ _ g l (rw d.first_pairs.ensures at d.in_ok-count.ensures)
     (sym (d.apply_pairs.auto.fp ∙ d.take_whole.auto.patterns)) (sym (d.apply_pairs.auto.fc ∙ d.take_whole.auto.coefficients))
 
 pub returns-in_err-number-clause-res_after : goal.returns-in_err-number-clause-res_after
@@ -53,26 +53,22 @@ returns-in_err-pairs-clause-res_after c =
     let p = err_from_is_err_and c.from_residual-in_err-pairs.result c.from_residual-in_err-pairs.ensures.1 in
     rw p.1 (bad-list _ _ _ (held at.In_ok-take_whole (counted at.In_ok-number)) _ c.in_err-pairs.ensures.says p.2)
 
-pub slice_bounds-entries-end : goal.slice_bounds-entries-end
-slice_bounds-entries-end c = let l = listed (goal.at.slice_bounds-entries-end c).In_ok-pairs in omega (arith, l.few, c.read_list.auto.entries)
-
-pub slice_bounds-apply_pairs-end : goal.slice_bounds-apply_pairs-end
-slice_bounds-apply_pairs-end c =
-    let l = listed (goal.at.slice_bounds-apply_pairs-end c).In_ok-pairs in
-    sym (length-take-le _ _ (omega (arith, l.few, c.read_list.auto.entries)))
+pub first_pairs-requires : goal.first_pairs-requires
+first_pairs-requires c = let l = listed (goal.at.first_pairs-requires c).In_ok-pairs in omega (arith, l.few, c.read_list.auto.entries)
 
 pub apply_pairs-requires-clause-can_apply : goal.apply_pairs-requires-clause-can_apply
 apply_pairs-requires-clause-can_apply c =
     let at = goal.at.apply_pairs-requires-clause-can_apply c in
     let l = listed at.In_ok-pairs in
-    can-apply (held at.In_ok-take_whole (counted at.In_ok-number)) l (omega (arith, l.few, c.read_list.auto.entries))
-    (omega (arith, c.read_list.auto.patterns, c.requires.patterns_room)) (omega (arith, c.read_list.auto.coefficients, c.requires.coefficients_room))
+    rw c.first_pairs.ensures
+    (can-apply (held at.In_ok-take_whole (counted at.In_ok-number)) l (omega (arith, l.few, c.read_list.auto.entries))
+    (omega (arith, c.read_list.auto.patterns, c.requires.patterns_room)) (omega (arith, c.read_list.auto.coefficients, c.requires.coefficients_room)))
 
 pub returns-in_err-count-clause-res_after : goal.returns-in_err-count-clause-res_after
 returns-in_err-count-clause-res_after c =
     let at = goal.at.returns-in_err-count-clause-res_after c in
     let p = err_from_is_err_and c.from_residual-in_err-count.result c.from_residual-in_err-count.ensures.1 in
-    rw (p.1, p.2) (bad-pair _ _ _ (held at.In_ok-take_whole (counted at.In_ok-number)) (listed at.In_ok-pairs) c.in_err-count.ensures.says)
+    rw (p.1, p.2) (bad-pair _ _ _ (held at.In_ok-take_whole (counted at.In_ok-number)) (listed at.In_ok-pairs) (rw c.first_pairs.ensures at c.in_err-count.ensures.says))
 
 pub write_sum-requires-clause-each_valid : goal.write_sum-requires-clause-each_valid
 write_sum-requires-clause-each_valid c =
